@@ -1,0 +1,10 @@
+pub mod Bodies
+pub mod Ends
+pub mod Exactness
+pub mod Filling
+pub mod HeaderLines
+pub mod Headings
+pub mod Heads
+pub mod Letters
+pub mod Risen
+pub mod RuleLines

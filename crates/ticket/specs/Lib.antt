@@ -1,0 +1,9 @@
+pub mod Entries
+pub mod Entry
+pub mod Example
+pub mod Lines
+pub mod Reading
+pub mod Refusals
+pub mod Ruled
+pub mod Text
+pub mod Tickets
