@@ -13,12 +13,12 @@ use Rattle.std.specs.declared.option.Option.the-variants.{None, Some}
 use Rattle.fields.specs.Cuts.{longer, cut, after}
 
 -- the first byte `mark` stands at i
-pub cut-at : (mark : ℕ) (bs : List ℕ) (i : ℕ) → i < length bs → getD bs i 0 ≡ mark → ((k : ℕ) → k < i → getD bs k 0 ≡ mark → ⊥) → cut mark bs ≡ Some (take i bs, drop (suc i) bs)
-cut-at mark [] i h e none = absurd (omega arith)
-cut-at mark (b ∷ bs) zero h e none = cond-true (eqb b mark) _ _ (eq-eqb b mark e)
-cut-at mark (b ∷ bs) (suc i) h e none =
+pub cut-at-place : (mark : ℕ) (bs : List ℕ) (i : ℕ) → i < length bs → getD bs i 0 ≡ mark → ((k : ℕ) → k < i → getD bs k 0 ≡ mark → ⊥) → cut mark bs ≡ Some (take i bs, drop (suc i) bs)
+cut-at-place mark [] i h e none = absurd (omega arith)
+cut-at-place mark (b ∷ bs) zero h e none = cond-true (eqb b mark) _ _ (eq-eqb b mark e)
+cut-at-place mark (b ∷ bs) (suc i) h e none =
     cond-false (eqb b mark) _ _ (ne-eqb b mark (none 0 (omega arith)))
-    ∙ ap (longer b) (cut-at mark bs i (omega arith) e (λ k l. none (suc k) (omega arith)))
+    ∙ ap (longer b) (cut-at-place mark bs i (omega arith) e (λ k l. none (suc k) (omega arith)))
 
 -- there is no byte `mark`
 pub cut-none : (mark : ℕ) (bs : List ℕ) → ((k : ℕ) → k < length bs → getD bs k 0 ≡ mark → ⊥) → cut mark bs ≡ None

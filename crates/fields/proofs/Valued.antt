@@ -7,7 +7,7 @@ use native.Mathlib.Omega.{arith}
 use lib.Dec.{leb}
 use lib.ListN.{length, drop}
 use Rattle.std.proofs.shelf.Lists.{length-map}
-use Rattle.std.proofs.shelf.Tests.{cond-true, and-parts, and-from, leb-true, le-leb, false≢true}
+use Rattle.std.proofs.shelf.Tests.{and-parts, leb-true, false≢true}
 use Rattle.std.specs.declared.option.Option.{Option}
 use Rattle.std.specs.declared.option.Option.the-variants.{None, Some}
 use Rattle.std.specs.declared.result.Result.{Result}
@@ -27,6 +27,7 @@ use Rattle.fields.specs.declared.layout.Sort.{Sort}
 use Rattle.fields.specs.declared.layout.Sort.the-variants.{Header, Rule}
 use Rattle.fields.specs.declared.value.Value.{Value}
 use Rattle.fields.proofs.Commas.{commas, fields-commas, commas-fields}
+use Rattle.fields.proofs.Judging.{without-fault}
 use Rattle.fields.proofs.Outcomes.{err-no-ok, then-ok, mapped-ok, cond-ok, same-ok}
 use Rattle.fields.proofs.Placed.{Placed, formed-spelled, formed-says, placed-inside, placed-free}
 use Rattle.fields.proofs.Spelling.{spelled}
@@ -57,16 +58,6 @@ checked s requests line vs = ranged s requests line vs >>= λ _. ordered s line 
 abbrev values-in : Sort → (requests line : ℕ) → List (List ℕ) → Result (List Value) LineFault
 values-in s requests line fs = cond (counted s (length fs)) (in-line (formed s line 1 fs >>= checked s requests line)) (Err (Count line))
 
-values-in-spelled : (s : Sort) (requests line : ℕ) (vs : List Value) → Valued s requests vs → values-in s requests line (map spelled vs) ≡ Ok vs
-values-in-spelled s requests line vs h =
-    let n = length (map spelled vs) in
-    let many : n ≡ length vs = length-map vs spelled in
-    let count : counted s n ≡ true = and-from (leb (fewest s) n) (leb n (most s)) (le-leb (fewest s) n (subst (λ k. fewest s ≤ k) (sym many) (h .count .0))) (le-leb n (most s) (subst (λ k. k ≤ most s) (sym many) (h .count .1))) in
-    cond-true (counted s n) (in-line (formed s line 1 (map spelled vs) >>= checked s requests line)) (Err (Count line)) count
-    ∙ ap (λ (r : Result (List Value) FieldFault). in-line (r >>= checked s requests line)) (formed-spelled s requests line 1 vs (h .placed))
-    ∙ ap (λ (o : Option ℕ). in-line (without Range line o >>= λ _. ordered s line vs >>= λ _. Ok vs)) (placed-inside s requests 1 vs (h .placed))
-    ∙ ap (λ (r : Result (Unit {0}) FieldFault). in-line (r >>= λ _. Ok vs)) (ordered-when (ends-in-set s) line (first-unrisen None 3 (drop 2 vs)) (h .order))
-
 fewest-some : (s : Sort) → 1 ≤ fewest s
 fewest-some (Header h) = omega arith
 fewest-some (Rule Options) = omega arith
@@ -79,8 +70,14 @@ fields-spelled s requests (v ∷ vs) some placed = fields-commas (spelled v) (ma
 
 pub values-of-spelled : (s : Sort) (requests line : ℕ) (vs : List Value) → Valued s requests vs → values-of s requests line (commas (map spelled vs)) ≡ Ok vs
 values-of-spelled s requests line vs h =
-    let some : 1 ≤ length vs = omega (arith, fewest-some s) in
-    ap (values-in s requests line) (fields-spelled s requests vs some (h .placed)) ∙ values-in-spelled s requests line vs h
+    let value = commas (map spelled vs) in
+    let some : 1 ≤ length vs = omega (arith, h .count .0, fewest-some s) in
+    let same : fields value ≡ map spelled vs = fields-spelled s requests vs some (h .placed) in
+    let many : length vs ≡ length (fields value) = sym (ap length same ∙ length-map vs spelled) in
+    without-fault s requests line value vs (subst (λ k. fewest s ≤ k) many (h .count .0)) (subst (λ k. k ≤ most s) many (h .count .1))
+    (ap (formed s line 1) same ∙ formed-spelled s requests line 1 vs (h .placed))
+    (ap (without Range line) (placed-inside s requests 1 vs (h .placed)))
+    (ordered-when (ends-in-set s) line (first-unrisen None 3 (drop 2 vs)) (h .order))
 
 -- what passes is spelled by the fields
 values-in-ok : (s : Sort) (requests line : ℕ) (fs : List (List ℕ)) (vs : List Value) → values-in s requests line fs ≡ Ok vs → Valued s requests vs × (fs ≡ map spelled vs)

@@ -112,7 +112,8 @@ fn ordered(sort: Sort, line: usize, values: &[Value]) -> Result<(), FieldFault>
     Ok(())
 }
 
-// COUNT, FORM, RANGE and ORDER; gives the number of the fields, whose values it writes.
+// COUNT, FORM, RANGE and ORDER; gives the number of the fields, whose values it writes to the first places. What then stands in the other
+// places, and at a fault in any place, is open.
 pub fn checked(
     sort: Sort,
     requests: u32,
