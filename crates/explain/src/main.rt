@@ -1,4 +1,6 @@
 // Reads a ticket from standard input and prints what it says, or why it is refused.
+#![tactic(auto)]
+
 mod summary;
 
 use std::io::Read;

@@ -1,4 +1,6 @@
 // The rules of faces: whether some faces at the back meet all that are in force.
+#![tactic(auto)]
+
 mod rows;
 
 ghost use Rattle.std.specs.Prelude.{◌≡◌, ◌≤◌, min};

@@ -1,4 +1,6 @@
 // One line of a ticket: its text cut into fields, what each field says, and the first that is at fault.
+#![tactic(auto)]
+
 mod cuts;
 mod fault;
 mod layout;

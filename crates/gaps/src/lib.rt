@@ -1,4 +1,6 @@
 // Where the marks can lie, by the rules on gaps that are in force for a set of requests.
+#![tactic(auto)]
+
 mod rounds;
 
 ghost use Rattle.std.specs.Prelude.{◌≡◌, ◌≤◌, min};

@@ -1,4 +1,6 @@
 // Oracles over oracles.
+#![tactic(auto)]
+
 ghost use Rattle.std.specs.Prelude.{◌≡◌};
 ghost use Rattle.oracle.specs.Asking.{nought};
 ghost use Rattle.layers.specs.Asked.{says_fit};

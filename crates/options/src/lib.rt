@@ -1,4 +1,6 @@
 // Which sets of requests can be met, as far as the rules of letter h go.
+#![tactic(auto)]
+
 mod propagation;
 
 ghost use Rattle.std.specs.Prelude.{◌≡◌, ◌≤◌, min};

@@ -1,4 +1,6 @@
 // An oracle answers whether a set of requests can be met, while its allowance lasts.
+#![tactic(auto)]
+
 ghost use Rattle.std.specs.Prelude.{◌≡◌};
 ghost use Rattle.sets.specs.Sets.{bits_of};
 ghost use Rattle.oracle.specs.Asking.{grant_answer, Checked, Granted};

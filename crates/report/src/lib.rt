@@ -1,4 +1,6 @@
 // The pile of oracles that the program asks.
+#![tactic(auto)]
+
 ghost use Rattle.std.specs.Prelude.{◌≡◌};
 ghost use Rattle.report.specs.Piles.{pile_meaning, piled, PileOf};
 ghost use Rattle.report.specs.Together.{together as together_answer, ToldTogether};

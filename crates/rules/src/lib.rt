@@ -1,4 +1,6 @@
 // The rules of a ticket, as the reader leaves them.
+#![tactic(auto)]
+
 ghost use Rattle.std.specs.Prelude.{◌≡◌};
 ghost use Rattle.rules.specs.Blank.{blank};
 ghost use Rattle.rules.specs.Force.{head_valid, body_valid, in_force};

@@ -1,4 +1,6 @@
 // Sets of small numbers, each held as one number: options and faces as a `Mask`, requests as a `Set`.
+#![tactic(auto)]
+
 mod set;
 
 ghost use Rattle.std.specs.Prelude.{◌≡◌, count_ones};

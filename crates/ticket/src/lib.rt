@@ -1,4 +1,6 @@
 // Reads a job ticket from its bytes into a list of rules, or refuses it with number, line and field.
+#![tactic(auto)]
+
 ghost use Rattle.ticket.specs.Example.{ReadsA, WritesA};
 
 mod entry;

@@ -1,4 +1,6 @@
 // Tests of the oracles: tables with known answers, and exhaustive search.
+#![tactic(auto)]
+
 #[cfg(test)]
 mod agreed;
 mod asked;

@@ -18,9 +18,9 @@ pub loop-i-preserved : goal.loop-i-preserved
 loop-i-preserved c =
     let i = c.loop-i.i in
     let at = c.loop-i.invariant.0 (omega (arith, c.requires, c.loop-i-test.true)) in
-    let some = ap (λ k. said k.style (first_field c.loop-i.rest.now).0) (sym c.column.ensures) ∙ ap (λ p. said c.column.result.style p.0) (sym c.next-field.ensures) ∙ sym c.said.ensures ∙ c.in-Some.is in
+    let some = ap (λ k. said k.style (first_field c.loop-i.rest.now).0) (sym c.column.ensures) ∙ ap (λ p. said c.column.result.style p.0) (sym c.next_field.ensures) ∙ sym c.said.ensures ∙ c.in-Some.is in
     let lt : i < length c.loop-i.values = omega arith in (
-      λ more. ap (λ p. fields p.1) c.next-field.ensures ∙ rest_later c.args.sort c.args.line c.args.value.now c.loop-i.rest.now i at more,
+      λ more. ap (λ p. fields p.1) c.next_field.ensures ∙ rest_later c.args.sort c.args.line c.args.value.now c.loop-i.rest.now i at more,
       ap (λ vs. prepended vs (formed c.args.sort c.args.line (i + 1 + 1) (drop (i + 1) (fields c.args.value.now)))) (take_more_set c.loop-i.values i c.in-Some.said lt)
           ∙ formed_more c.args.sort c.args.line c.args.value.now c.loop-i.rest.now i at (take i c.loop-i.values) c.in-Some.said some
           ∙ c.loop-i.invariant.1,

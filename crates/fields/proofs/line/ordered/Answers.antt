@@ -14,7 +14,7 @@ returns-then-not-is-above c =
 
 pub loop-i-preserved : goal.loop-i-preserved
 loop-i-preserved c =
-    let good = ap (above c.loop-i.before) (sym c.amount-n.ensures) ∙ sym c.if-not-is-above.ensures in
+    let good = ap (above c.loop-i.before) (sym c.amount-n.ensures) ∙ sym c.if-not-is_above.ensures in
     ap (λ n. first_unrisen (Some n) (c.loop-i.i + 1 + 1) (drop (c.loop-i.i + 1) c.args.values.now)) c.amount-n.ensures
     ∙ sym (above_more c.loop-i.before c.args.values.now c.loop-i.i c.loop-i-test.true good) ∙ c.loop-i.invariant
 
@@ -22,4 +22,4 @@ pub returns : goal.returns
 returns c =
     ap (without Order c.args.line)
     (sym (at_drop_all (first_unrisen c.loop-i.before (c.loop-i.i + 1)) c.args.values.now c.loop-i.i c.loop-i-test.false) ∙ c.loop-i.invariant)
-    ∙ sym (cond-true _ _ _ (sym c.if-not-ends-in-set.ensures))
+    ∙ sym (cond-true _ _ _ (sym c.if-not-ends_in_set.ensures))

@@ -14,7 +14,7 @@ returns-then-not-is-inside c =
 
 pub loop-i-preserved : goal.loop-i-preserved
 loop-i-preserved c =
-    let good = ap (λ k. inside k (get_or c.args.values.now c.loop-i.i Dash)) (sym c.column.ensures) ∙ sym c.if-not-is-inside.ensures in
+    let good = ap (λ k. inside k (get_or c.args.values.now c.loop-i.i Dash)) (sym c.column.ensures) ∙ sym c.if-not-is_inside.ensures in
     sym (inside_more c.args.sort c.args.requests c.args.values.now c.loop-i.i c.loop-i-test.true good) ∙ c.loop-i.invariant
 
 pub returns : goal.returns

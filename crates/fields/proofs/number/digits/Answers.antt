@@ -24,9 +24,9 @@ loop-b-preserved c =
     let field = c.args.field.now in
     let i = c.loop-b.b-index in
     let lt = c.loop-b-test.true in (
-      one_more c.loop-b.sum c.from.result i c.loop-b.invariant.0 (omega (arith, c.if-not-is-ascii-digit.ensures.cases, c.from.ensures)),
+      one_more c.loop-b.sum c.from.result i c.loop-b.invariant.0 (omega (arith, c.if-not-is_ascii_digit.ensures.cases, c.from.ensures)),
       ap (λ d. number_after (c.loop-b.sum * 10 + d) (drop (i + 1) field)) c.from.ensures ∙ sym (at_drop_more (number_after c.loop-b.sum) field i 0 lt) ∙ c.loop-b.invariant.1,
-      ap (λ (t : Bool). t && all_ascii_digits (drop (i + 1) field)) c.if-not-is-ascii-digit.ensures.value ∙ sym (at_drop_more all_ascii_digits field i 0 lt) ∙ c.loop-b.invariant.2,
+      ap (λ (t : Bool). t && all_ascii_digits (drop (i + 1) field)) c.if-not-is_ascii_digit.ensures.value ∙ sym (at_drop_more all_ascii_digits field i 0 lt) ∙ c.loop-b.invariant.2,
     )
 
 pub returns : goal.returns

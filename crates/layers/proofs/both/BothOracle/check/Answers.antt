@@ -21,10 +21,10 @@ pub returns : goal.returns
 returns g c =
     let l = g.L.Meant.meaning c.args.self.now.left in
     let r = g.R.Meant.meaning c.args.self.now.right in
-    let l' = g.L.Meant.meaning c.ask-in-turn.new.self.left in
-    let r' = g.R.Meant.meaning c.ask-in-turn.new.self.right in
+    let l' = g.L.Meant.meaning c.ask_in_turn.new.self.left in
+    let r' = g.R.Meant.meaning c.ask_in_turn.new.self.right in
     let s = c.args.set.bits in
-    let near : within (min l.width r.width) s ≡ true = not-false (within (min l.width r.width) s) (sym c.is-outside.ensures ∙ c.if-is-outside.false) in
+    let near : within (min l.width r.width) s ≡ true = not-false (within (min l.width r.width) s) (sym c.is_outside.ensures ∙ c.if-is_outside.false) in
     let left : only_right_spent l r ≡ false = sym c.only-right-is-spent.ensures ∙ c.if-only-right-is-spent.false in
-    let asked : BothChecked l r s c.ask-in-turn.result l' r' = yes_if (within (min l.width r.width) s) near (no_if (only_right_spent l r) left c.ask-in-turn.ensures) in
-    record { 0 = both_checked l r l' r' s c.ask-in-turn.result asked; asked = asked }
+    let asked : BothChecked l r s c.ask_in_turn.result l' r' = yes_if (within (min l.width r.width) s) near (no_if (only_right_spent l r) left c.ask_in_turn.ensures) in
+    record { 0 = both_checked l r l' r' s c.ask_in_turn.result asked; asked = asked }

@@ -15,7 +15,7 @@ returns g c =
     let unfits' = kept_list c.ask.new.self.unfits in
     let m' = g.O.Meant.meaning c.ask.new.self.below in
     let s = c.args.set.bits in
-    let near : within m.width s ≡ true = ap (λ w. within w s) (sym c.width.ensures) ∙ sym c.is-within.ensures ∙ c.if-not-is-within.false in
+    let near : within m.width s ≡ true = ap (λ w. within w s) (sym c.width.ensures) ∙ sym c.is_within.ensures ∙ c.if-not-is_within.false in
     let P : Option Bool → Type 0 = λ d. CoverAsked d fits unfits m s c.ask.result fits' unfits' m' in
-    let asked : CoverChecked fits unfits m s c.ask.result fits' unfits' m' = yes_if (within m.width s) near (subst P c.in-default.ensures c.ask.ensures) in
+    let asked : CoverChecked fits unfits m s c.ask.result fits' unfits' m' = yes_if (within m.width s) near (subst P c.in_default.ensures c.ask.ensures) in
     record { 0 = cover_checked fits unfits m s c.ask.result fits' unfits' m' (g.O.Meant.lawful c.args.self.now.below) asked; asked = asked }

@@ -11,7 +11,7 @@ returns-then-is-part-of c =
 pub loop-kept-preserved : goal.loop-kept-preserved
 loop-kept-preserved c =
     let xs = c.held-kept-items.result.now in
-    sym (any_later (λ k. part c.args.set.bits k) xs c.loop-kept.kept-index _ c.loop-kept-test.true (sym c.if-is-part-of.ensures)) ∙ c.loop-kept.invariant
+    sym (any_later (λ k. part c.args.set.bits k) xs c.loop-kept.kept-index _ c.loop-kept-test.true (sym c.if-is_part_of.ensures)) ∙ c.loop-kept.invariant
 
 pub returns : goal.returns
 returns c =
