@@ -1,8 +1,5 @@
 pub mod Asked
 pub mod Layered
+pub mod Laws
 pub mod Listed
 pub mod Meant
-pub mod Boths
-pub mod Cases
-pub mod Covers
-pub mod KeptLists

@@ -5,7 +5,7 @@ ghost use Rattle.sets.specs.Requests.{within};
 ghost use Rattle.sets.specs.Sets.{bits_of};
 ghost use Rattle.layers.specs.Asked.{only_right_spent, InTurn, BothChecked};
 ghost use Rattle.layers.specs.Meant.{both_meaning};
-ghost use Rattle.layers.specs.Boths.{both_lawful};
+ghost use Rattle.layers.specs.Laws.{both_lawful};
 
 use crate::{is_nought, lesser, says_fit};
 use oracle::{CheckRefusal, GrantRefusal, Meant, Oracle, Verdict};

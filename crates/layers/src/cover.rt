@@ -5,7 +5,7 @@ ghost use Rattle.sets.specs.Sets.{bits_of};
 ghost use Rattle.layers.specs.Asked.{fits_after, unfits_after, deciding, CoverAsked, CoverChecked};
 ghost use Rattle.layers.specs.Listed.{kept_list};
 ghost use Rattle.layers.specs.Meant.{cover_meaning};
-ghost use Rattle.layers.specs.Covers.{cover_lawful};
+ghost use Rattle.layers.specs.Laws.{cover_lawful};
 
 use crate::is_nought;
 use crate::kept_sets::KeptSets;

@@ -71,7 +71,7 @@ pub fn rule_line(requests: u32, line: usize, text: &[u8]) -> Result<(Rule, &[u8]
 fn end_value(line: usize, value: &[u8]) -> Result<(), FieldFault>
     ensures { in_line result ≡ end_value line value.now }
 {
-    if value == b"ticket" {
+    if value == b"ticket".as_slice() {
         return Ok(());
     }
     Err(FieldFault {

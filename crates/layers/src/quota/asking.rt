@@ -3,8 +3,8 @@ ghost use Rattle.std.specs.Prelude.{◌≡◌};
 ghost use Rattle.oracle.specs.Asking.{Checked, Granted};
 ghost use Rattle.sets.specs.Sets.{bits_of};
 ghost use Rattle.layers.specs.Asked.{number_granted, QuotaChecked};
+ghost use Rattle.layers.specs.Laws.{quota_lawful};
 ghost use Rattle.layers.specs.Meant.{quota_meaning};
-ghost use Rattle.std.proofs.Common.{rules};
 
 use crate::lesser;
 use crate::quota::Quota;
@@ -14,7 +14,7 @@ use sets::Set;
 impl<O: Oracle> Meant for Quota<O> {
     ghost meaning = { quota_meaning O.Meant.meaning };
 
-    ghost lawful = { Prim.search rules };
+    ghost lawful = { λ o. quota_lawful o.number o.label (O.Meant.meaning o.below) o.counted o.labelled (O.Meant.lawful o.below) };
 }
 
 impl<O: Oracle> Oracle for Quota<O> {

@@ -24,14 +24,14 @@ returns c =
     let h_is : options_meaning o ≡ options.meant width rules = all_meant options.meant o.width width o.rules.now rules c.new-3.ensures.0 c.new-3.ensures.1 in
     let g_is : gaps_meaning g ≡ gaps.meant width rules = all_meant gaps.meant g.width width g.rules.now rules c.new.ensures.0 c.new.ensures.1 in
     let f_is : faces_meaning f ≡ faces.meant width rules = all_meant faces.meant f.width width f.rules.now rules c.new-2.ensures.0 c.new-2.ensures.1 in
-    let pair : both_meaning gaps_meaning faces_meaning c.new-gaps-and-faces.result ≡ both (gaps.meant width rules) (faces.meant width rules) =
-    ap (λ x. both (gaps_meaning x) (faces_meaning c.new-gaps-and-faces.result.right)) c.new-gaps-and-faces.ensures.0
-    ∙ ap (λ x. both (gaps_meaning g) (faces_meaning x)) c.new-gaps-and-faces.ensures.1
+    let pair : both_meaning gaps_meaning faces_meaning c.new-gaps_and_faces.result ≡ both (gaps.meant width rules) (faces.meant width rules) =
+    ap (λ x. both (gaps_meaning x) (faces_meaning c.new-gaps_and_faces.result.right)) c.new-gaps_and_faces.ensures.0
+    ∙ ap (λ x. both (gaps_meaning g) (faces_meaning x)) c.new-gaps_and_faces.ensures.1
     ∙ ap (λ m. both m (faces_meaning f)) g_is ∙ ap (both (gaps.meant width rules)) f_is in
     let all : both_meaning options_meaning (both_meaning gaps_meaning faces_meaning) c.new-all.result ≡ rules_meaning width rules =
     ap (λ x. both (options_meaning x) (both_meaning gaps_meaning faces_meaning c.new-all.result.right)) c.new-all.ensures.0
     ∙ ap (λ x. both (options_meaning o) (both_meaning gaps_meaning faces_meaning x)) c.new-all.ensures.1
-    ∙ ap (λ m. both m (both_meaning gaps_meaning faces_meaning c.new-gaps-and-faces.result)) h_is ∙ ap (both (options.meant width rules)) pair in
+    ∙ ap (λ m. both m (both_meaning gaps_meaning faces_meaning c.new-gaps_and_faces.result)) h_is ∙ ap (both (options.meant width rules)) pair in
     let B = both_meaning options_meaning (both_meaning gaps_meaning faces_meaning) in
     let kept : cover_meaning B k ≡ cover [] [] (rules_meaning width rules) =
     ap (λ x. cover x (kept_list k.unfits) (B k.below)) c.new-4.ensures.0

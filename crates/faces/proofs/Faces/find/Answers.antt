@@ -14,23 +14,23 @@ use Rattle.faces.proofs.Faces.find.Goals as goal
 pub loop-rule-init : goal.loop-rule-init
 loop-rule-init c = leaves_start 32 (said (bits_of c.args.set) c.args.self.now.rules.now)
 
-pub returns-then-not-enter-by : goal.returns-then-not-enter-by
-returns-then-not-enter-by c =
+pub returns-then-not-enter_by : goal.returns-then-not-enter_by
+returns-then-not-enter_by c =
     let s = bits_of c.args.set in
     let rules = c.args.self.now.rules.now in
     let i = c.loop-rule.rule-index in
-    let entered = c.if-not-enter-by.ensures in
+    let entered = c.if-not-enter_by.ensures in
     leaves_none 32 (said s rules) (said s (drop (i + 1) rules))
-    (followed s rules i (in_force s (get_or rules i blank)) c.loop-rule.rows c.enter-by.new.rows false c.loop-rule-test.true
+    (followed s rules i (in_force s (get_or rules i blank)) c.loop-rule.rows c.enter_by.new.rows false c.loop-rule-test.true
     refl entered.narrow entered.rows c.loop-rule.invariant)
 
 pub loop-rule-preserved : goal.loop-rule-preserved
 loop-rule-preserved c =
     let s = bits_of c.args.set in
-    let entered = c.if-not-enter-by.ensures in
+    let entered = c.if-not-enter_by.ensures in
     let rules = c.args.self.now.rules.now in
     let i = c.loop-rule.rule-index in
-    followed s rules i (in_force s (get_or rules i blank)) c.loop-rule.rows c.enter-by.new.rows true c.loop-rule-test.true
+    followed s rules i (in_force s (get_or rules i blank)) c.loop-rule.rows c.enter_by.new.rows true c.loop-rule-test.true
     refl entered.narrow entered.rows c.loop-rule.invariant
 
 pub returns : goal.returns

@@ -4,4 +4,4 @@ use Rattle.faces.proofs.Deciding.{found_fit}
 use Rattle.faces.proofs.Faces.is_fit.Goals as goal
 
 pub returns : goal.returns
-returns c = c.is-some.ensures ∙ found_fit c.args.self.now.rules.now (bits_of c.args.set) c.find.result c.find.ensures
+returns c = c.is_some.ensures ∙ found_fit c.args.self.now.rules.now (bits_of c.args.set) c.find.result c.find.ensures

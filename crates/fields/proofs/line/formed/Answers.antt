@@ -7,11 +7,11 @@ use Rattle.fields.specs.Numbers.{said}
 use Rattle.fields.proofs.Forming.{prepended, rest_later, formed_fault, formed_more, formed_all}
 use Rattle.fields.proofs.line.formed.Goals as goal
 
-pub returns-in-default : goal.returns-in-default
-returns-in-default c =
+pub returns-in_default : goal.returns-in_default
+returns-in_default c =
     let i = c.loop-i.i in
     let at = c.loop-i.invariant.0 (omega (arith, c.requires, c.loop-i-test.true)) in
-    let none = ap (λ k. said k.style (first_field c.loop-i.rest.now).0) (sym c.column.ensures) ∙ ap (λ p. said c.column.result.style p.0) (sym c.next-field.ensures) ∙ sym c.said.ensures ∙ c.in-default.is in
+    let none = ap (λ k. said k.style (first_field c.loop-i.rest.now).0) (sym c.column.ensures) ∙ ap (λ p. said c.column.result.style p.0) (sym c.next_field.ensures) ∙ sym c.said.ensures ∙ c.in_default.is in
     sym c.loop-i.invariant.1 ∙ formed_fault c.args.sort c.args.line c.args.value.now c.loop-i.rest.now i at (take i c.loop-i.values) none
 
 pub loop-i-preserved : goal.loop-i-preserved

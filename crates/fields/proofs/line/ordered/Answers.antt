@@ -6,11 +6,11 @@ use Rattle.fields.specs.declared.fault.Flaw.TheVariants.{Order}
 use Rattle.fields.proofs.Passing.{above_more, unrisen_here}
 use Rattle.fields.proofs.line.ordered.Goals as goal
 
-pub returns-then-not-is-above : goal.returns-then-not-is-above
-returns-then-not-is-above c =
-    let bad = ap (above c.loop-i.before) (sym c.amount-n.ensures) ∙ sym c.if-not-is-above.ensures in
+pub returns-then-not-is_above : goal.returns-then-not-is_above
+returns-then-not-is_above c =
+    let bad = ap (above c.loop-i.before) (sym c.amount-n.ensures) ∙ sym c.if-not-is_above.ensures in
     ap (without Order c.args.line) (sym (unrisen_here c.loop-i.before c.args.values.now c.loop-i.i c.loop-i-test.true bad) ∙ c.loop-i.invariant)
-    ∙ sym (cond-true _ _ _ (sym c.if-not-ends-in-set.ensures))
+    ∙ sym (cond-true _ _ _ (sym c.if-not-ends_in_set.ensures))
 
 pub loop-i-preserved : goal.loop-i-preserved
 loop-i-preserved c =

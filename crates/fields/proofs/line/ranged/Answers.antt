@@ -7,9 +7,9 @@ use Rattle.fields.specs.declared.value.Value.TheVariants.{Dash}
 use Rattle.fields.proofs.Passing.{inside_more, outside_here}
 use Rattle.fields.proofs.line.ranged.Goals as goal
 
-pub returns-then-not-is-inside : goal.returns-then-not-is-inside
-returns-then-not-is-inside c =
-    let bad = ap (λ k. inside k (get_or c.args.values.now c.loop-i.i Dash)) (sym c.column.ensures) ∙ sym c.if-not-is-inside.ensures in
+pub returns-then-not-is_inside : goal.returns-then-not-is_inside
+returns-then-not-is_inside c =
+    let bad = ap (λ k. inside k (get_or c.args.values.now c.loop-i.i Dash)) (sym c.column.ensures) ∙ sym c.if-not-is_inside.ensures in
     ap (without Range c.args.line) (sym (outside_here c.args.sort c.args.requests c.args.values.now c.loop-i.i c.loop-i-test.true bad) ∙ c.loop-i.invariant)
 
 pub loop-i-preserved : goal.loop-i-preserved

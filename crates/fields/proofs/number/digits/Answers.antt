@@ -6,18 +6,18 @@ use Rattle.fields.specs.Numbers.{number_after}
 use Rattle.fields.proofs.Digits.{one_more, at_most_seven}
 use Rattle.fields.proofs.number.digits.Goals as goal
 
-pub returns-then-not-is-ascii-digit : goal.returns-then-not-is-ascii-digit
-returns-then-not-is-ascii-digit c =
+pub returns-then-not-is_ascii_digit : goal.returns-then-not-is_ascii_digit
+returns-then-not-is_ascii_digit c =
     let field = c.args.field.now in
     let i = c.loop-b.b-index in
-    let bad = sym c.loop-b.invariant.2 ∙ at_drop_more all_ascii_digits field i 0 c.loop-b-test.true ∙ ap (λ (t : Bool). t && all_ascii_digits (drop (i + 1) field)) (sym c.if-not-is-ascii-digit.ensures.value) in
+    let bad = sym c.loop-b.invariant.2 ∙ at_drop_more all_ascii_digits field i 0 c.loop-b-test.true ∙ ap (λ (t : Bool). t && all_ascii_digits (drop (i + 1) field)) (sym c.if-not-is_ascii_digit.ensures.value) in
     record { value = sym (cond-false _ _ _ bad); bound = tt }
 
-pub overflow-mul-sum : goal.overflow-mul-sum
-overflow-mul-sum c = omega (arith, at_most_seven c.loop-b.sum c.loop-b.b-index c.loop-b.invariant.0 (omega (arith, c.requires)))
+pub overflow_mul-sum : goal.overflow_mul-sum
+overflow_mul-sum c = omega (arith, at_most_seven c.loop-b.sum c.loop-b.b-index c.loop-b.invariant.0 (omega (arith, c.requires)))
 
-pub overflow-add-sum : goal.overflow-add-sum
-overflow-add-sum c = omega (arith, at_most_seven c.loop-b.sum c.loop-b.b-index c.loop-b.invariant.0 (omega (arith, c.requires)), c.type-inv.field c.loop-b.b-index)
+pub overflow_add-sum : goal.overflow_add-sum
+overflow_add-sum c = omega (arith, at_most_seven c.loop-b.sum c.loop-b.b-index c.loop-b.invariant.0 (omega (arith, c.requires)), c.type_inv.field c.loop-b.b-index)
 
 pub loop-b-preserved : goal.loop-b-preserved
 loop-b-preserved c =

@@ -4,4 +4,4 @@ use Rattle.gaps.proofs.Searching.{found_tells}
 use Rattle.gaps.proofs.Gaps.is_fit.Goals as goal
 
 pub returns : goal.returns
-returns c = c.is-some.ensures ∙ found_tells c.args.self.now.rules.now (bits_of c.args.set) c.find.result c.find.ensures
+returns c = c.is_some.ensures ∙ found_tells c.args.self.now.rules.now (bits_of c.args.set) c.find.result c.find.ensures

@@ -7,7 +7,7 @@ use Rattle.rules.proofs.Saying.{in_force_valid}
 use Rattle.sets.specs.Sets.{bits_of}
 use Rattle.gaps.proofs.Lifting.{Lifting, lifting_up, lifting_still, lifting_said, lifting_past, lifting_ends}
 use Rattle.gaps.proofs.rounds.lift.Goals as goal
-use Rattle.gaps.proofs.rounds.lift.Goals.{in-Some+then-raise, in-Some+else-raise, in-default}
+use Rattle.gaps.proofs.rounds.lift.Goals.{in-Some+then-raise, in-Some+else-raise, in_default}
 
 pub raise-requires : goal.raise-requires
 raise-requires c =
@@ -16,27 +16,27 @@ raise-requires c =
 
 -- what this rule says, and what is left behind it
 from :
-    (c : goal.Joined-in-force) (o : Option Body) → c.in_force.result ≡ o
+    (c : goal.Joined-in_force) (o : Option Body) → c.in_force.result ≡ o
     → let s = bits_of c.args.set in
     let rules = c.args.rules.now in
     let behind = drop (c.loop-rule.rule-index + 1) rules in
     Lifting c.args.old.now c.loop-rule.new c.loop-rule.moved (and_then o (said s behind)) (said s rules)
 from c o e = lifting_said _ _ c.loop-rule.rule-index o _ _ _ c.loop-rule-test.true (sym c.in_force.ensures ∙ e) c.loop-rule.invariant
 
-pub loop-rule-preserved-then-not-is-of : goal.loop-rule-preserved-then-not-is-of
-loop-rule-preserved-then-not-is-of c =
-    lifting_past _ _ c.loop-rule.rule-index _ _ _ c.loop-rule-test.true (sym c.is-of.ensures ∙ c.if-not-is-of.true) c.loop-rule.invariant
+pub loop-rule-preserved-then-not-is_of : goal.loop-rule-preserved-then-not-is_of
+loop-rule-preserved-then-not-is_of c =
+    lifting_past _ _ c.loop-rule.rule-index _ _ _ c.loop-rule-test.true (sym c.is_of.ensures ∙ c.if-not-is_of.true) c.loop-rule.invariant
 
 pub loop-rule-preserved : goal.loop-rule-preserved
 loop-rule-preserved c =
-    elim c.match-in-force.branch [
+    elim c.match-in_force.branch [
       | in-Some+then-raise w ↦
           let up = sym w.raise.ensures.moved ∙ w.if-raise.true in
           rw (w.new-is, w.raise.ensures.value, w.moved-is) (lifting_up _ _ _ _ _ _ up (from c _ w.in-Some.is))
       | in-Some+else-raise w ↦
           let stays = sym w.raise.ensures.moved ∙ w.if-raise.false in
           rw (w.new-is, w.raise.ensures.value, w.moved-is) (lifting_still _ _ _ _ _ _ stays (from c _ w.in-Some.is))
-      | in-default w ↦ rw (w.new-is, w.moved-is) (from c None w.in-default.is)
+      | in_default w ↦ rw (w.new-is, w.moved-is) (from c None w.in_default.is)
     ]
 
 pub returns : goal.returns

@@ -7,13 +7,13 @@ use Rattle.rules.specs.Propagation.{barred}
 use Rattle.options.proofs.Turns.{barred_from}
 use Rattle.options.proofs.propagation.barred.Goals as goal
 
-pub returns-then-barred-by : goal.returns-then-barred-by
-returns-then-barred-by c =
+pub returns-then-barred_by : goal.returns-then-barred_by
+returns-then-barred_by c =
     let rules = c.args.rules.now in
     let s = bits_of c.args.set in
     let i = c.loop-rule.rule-index in
     let on = number_of c.args.on in
-    ap (λ t. t || barred (said s (drop (i + 1) rules)) on) (sym c.if-barred-by.true ∙ c.barred_by.ensures)
+    ap (λ t. t || barred (said s (drop (i + 1) rules)) on) (sym c.if-barred_by.true ∙ c.barred_by.ensures)
     ∙ barred_from s rules i c.loop-rule-test.true on
     ∙ c.loop-rule.invariant
 
@@ -23,7 +23,7 @@ loop-rule-preserved c =
     let s = bits_of c.args.set in
     let i = c.loop-rule.rule-index in
     let on = number_of c.args.on in
-    ap (λ t. t || barred (said s (drop (i + 1) rules)) on) (sym c.if-barred-by.false ∙ c.barred_by.ensures)
+    ap (λ t. t || barred (said s (drop (i + 1) rules)) on) (sym c.if-barred_by.false ∙ c.barred_by.ensures)
     ∙ barred_from s rules i c.loop-rule-test.true on
     ∙ c.loop-rule.invariant
 

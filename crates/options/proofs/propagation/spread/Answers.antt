@@ -1,5 +1,5 @@
 use Rattle.std.proofs.Common.{◌≡◌, suc, ◌+◌, ◌-◌, sym, ap, ◌∙◌, arith}
-use Rattle.std.proofs.lemmas.Bool.{both_ways}
+use Rattle.std.proofs.lemmas.Bool.{eqb-true, eqb-false}
 use Rattle.sets.specs.Masks.{number_of}
 use Rattle.sets.specs.Sets.{bits_of}
 use Rattle.rules.specs.Force.{said}
@@ -16,7 +16,7 @@ returns-then-eq c =
     let on = number_of c.loop.on in
     let turns = most_sweeps - (c.loop.counter + 1) in
     let left : suc turns ≡ most_sweeps - c.loop.counter = omega arith in
-    sym (spread_last turns bs on (sym c.sweep-next.ensures ∙ c.eq.ensures.0 c.if-eq.true))
+    sym (spread_last turns bs on (sym c.sweep-next.ensures ∙ eqb-true (number_of c.sweep-next.result) on (sym c.eq.ensures ∙ c.if-eq.true)))
     ∙ ap (λ n. spread n bs on) left
     ∙ c.loop.invariant
 
@@ -27,7 +27,7 @@ loop-preserved c =
     let turns = most_sweeps - (c.loop.counter + 1) in
     let left : suc turns ≡ most_sweeps - c.loop.counter = omega arith in
     ap (spread turns bs) c.sweep-next.ensures
-    ∙ sym (spread_more turns bs on (λ same. both_ways c.eq.result c.if-eq.false (c.eq.ensures.1 (c.sweep-next.ensures ∙ same))))
+    ∙ sym (spread_more turns bs on (λ same. eqb-false (number_of c.sweep-next.result) on (sym c.eq.ensures ∙ c.if-eq.false) (c.sweep-next.ensures ∙ same)))
     ∙ ap (λ n. spread n bs on) left
     ∙ c.loop.invariant
 

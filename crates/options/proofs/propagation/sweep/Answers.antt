@@ -13,7 +13,7 @@ loop-rule-preserved c =
     let s = bits_of c.args.set in
     let i = c.loop-rule.rule-index in
     let on = number_of c.loop-rule.next in
-    ap (sweep (said s (drop (i + 1) rules))) c.turned-by-next.ensures
+    ap (sweep (said s (drop (i + 1) rules))) c.turned_by-next.ensures
     ∙ sweep_from s rules i c.loop-rule-test.true on
     ∙ c.loop-rule.invariant
 

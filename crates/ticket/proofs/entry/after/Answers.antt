@@ -13,5 +13,5 @@ told key text (Some x) h = sym (ap (after key) h ∙ after_key key x.now)
 
 pub returns : goal.returns
 returns c =
-    told c.args.key.now c.args.text.now c.strip-prefix.result
-    (strip_prefix_is Decides-eqb c.args.text.now c.args.key.now c.strip-prefix.result c.strip-prefix.ensures.cases)
+    told c.args.key.now c.args.text.now c.strip_prefix.result
+    (strip_prefix_is Decides-eqb c.args.text.now c.args.key.now c.strip_prefix.result c.strip_prefix.ensures.cases)

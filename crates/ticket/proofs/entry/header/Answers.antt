@@ -6,7 +6,7 @@ use Rattle.fields.specs.declared.layout.Heading.TheVariants.{Ticket, Requests, C
 use Rattle.ticket.proofs.entry.header.Goals as goal
 
 pub loop-heading-preserved : goal.loop-heading-preserved
-loop-heading-preserved c = below_more _ _ c.loop-heading.invariant (ap (λ k. after k c.args.text.now) (sym c.key.ensures) ∙ sym c.in-default.ensures)
+loop-heading-preserved c = below_more _ _ c.loop-heading.invariant (ap (λ k. after k c.args.text.now) (sym c.key.ensures) ∙ sym c.in_default.ensures)
 
 pub returns : goal.returns
 returns c = every

@@ -17,13 +17,13 @@ last_fault room text h rest p e first second third =
     ∙ ap (λ (r : Result (List Rule × List ℕ) LineFault). r >>= λ q. end_line (h.rules + 5) q.1 >>= λ left. Ok (h, q.0, left)) second
     ∙ ap (λ (r : Result (List ℕ) LineFault). r >>= λ left. Ok (h, p.0, left)) third
 
-pub returns-in-err-rest-2 : goal.returns-in-err-rest-2
-returns-in-err-rest-2 c =
-    let q = err_from_is_err_and c.from-residual-in-err-rest-2.result c.from-residual-in-err-rest-2.ensures.1 in
-    let n = c.in-ok-header.header.rules in
-    let long : length (take (n - 0) c.args.rules.now) ≡ n = ap (λ k. length (take k c.args.rules.now)) (sub-zero n) ∙ length-take-le n c.args.rules.now c.in-ok-header.ensures.few in
+pub returns-in_err-rest-2 : goal.returns-in_err-rest-2
+returns-in_err-rest-2 c =
+    let q = err_from_is_err_and c.from_residual-in_err-rest-2.result c.from_residual-in_err-rest-2.ensures.1 in
+    let n = c.in_ok-header.header.rules in
+    let long : length (take (n - 0) c.args.rules.now) ≡ n = ap (λ k. length (take k c.args.rules.now)) (sub-zero n) ∙ length-take-le n c.args.rules.now c.in_ok-header.ensures.few in
     rw (q.1, q.2)
-    (last_fault (length c.args.rules.now) c.args.text.now c.in-ok-header.header c.in-ok-header.rest.now (c.rule_lines.new.rules, c.in-ok-rest.rest.now) c.in-err-rest-2.field-0.0
-    (sym c.in-ok-header.ensures.value)
-    (ap (λ k. rule_lines k c.in-ok-header.header.requests 5 c.in-ok-header.rest.now) (sym long) ∙ c.in-ok-rest.ensures)
-    (sym c.in-err-rest-2.ensures))
+    (last_fault (length c.args.rules.now) c.args.text.now c.in_ok-header.header c.in_ok-header.rest.now (c.rule_lines.new.rules, c.in_ok-rest.rest.now) c.in_err-rest-2.field-0.0
+    (sym c.in_ok-header.ensures.value)
+    (ap (λ k. rule_lines k c.in_ok-header.header.requests 5 c.in_ok-header.rest.now) (sym long) ∙ c.in_ok-rest.ensures)
+    (sym c.in_err-rest-2.ensures))

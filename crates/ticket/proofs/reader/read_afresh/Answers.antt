@@ -26,6 +26,6 @@ module _ (text : List ℕ) (room : ℕ) (before after : List Rule) (long : lengt
 
 pub returns : goal.returns
 returns c =
-    let long : length c.blank-all.new.rules ≡ length c.args.rules.now = omega arith in
-    let p = settled c.args.text.now (length c.args.rules.now) c.blank-all.new.rules c.read-all.new.rules long c.blank-all.ensures c.read-all.result c.read-all.ensures in
+    let long : length c.blank_all.new.rules ≡ length c.args.rules.now = omega arith in
+    let p = settled c.args.text.now (length c.args.rules.now) c.blank_all.new.rules c.read_all.new.rules long c.blank_all.ensures c.read_all.result c.read_all.ensures in
     record { answer = p.0; list = p.1; exact = exact c.args.text.now (length c.args.rules.now) }

@@ -11,21 +11,21 @@ loop-i-init c =
     behind_none (rule_lines (length c.args.rules.now - 0) c.args.requests 5 c.args.text.now)
     ∙ ap (λ k. rule_lines k c.args.requests 5 c.args.text.now) (sub-zero (length c.args.rules.now))
 
-pub returns-in-err-rule : goal.returns-in-err-rule
-returns-in-err-rule c =
-    let p = err_from_is_err_and c.from-residual.result c.from-residual.ensures.1 in
+pub returns-in_err-rule : goal.returns-in_err-rule
+returns-in_err-rule c =
+    let p = err_from_is_err_and c.from_residual.result c.from_residual.ensures.1 in
     let i = c.loop-i.i in
     rw (p.1, p.2)
     (sym c.loop-i.invariant
-    ∙ lines_fault (length c.args.rules.now) c.args.requests c.loop-i.rest.now (take i c.loop-i.rules) i c.loop-i-test.true c.in-err-rule.field-0.0 (sym c.in-err-rule.ensures))
+    ∙ lines_fault (length c.args.rules.now) c.args.requests c.loop-i.rest.now (take i c.loop-i.rules) i c.loop-i-test.true c.in_err-rule.field-0.0 (sym c.in_err-rule.ensures))
 
 pub loop-i-preserved : goal.loop-i-preserved
 loop-i-preserved c =
     let i = c.loop-i.i in
     let n = length c.args.rules.now in
     let lt : i < length c.loop-i.rules = omega arith in
-    ap (λ rs. behind rs (rule_lines (n - (i + 1)) c.args.requests (i + 1 + 5) c.in-ok-rule.after.now)) (take_more_set c.loop-i.rules i c.in-ok-rule.rule lt)
-    ∙ lines_more n c.args.requests c.loop-i.rest.now (take i c.loop-i.rules) i c.loop-i-test.true c.in-ok-rule.rule c.in-ok-rule.after.now (sym c.in-ok-rule.ensures)
+    ap (λ rs. behind rs (rule_lines (n - (i + 1)) c.args.requests (i + 1 + 5) c.in_ok-rule.after.now)) (take_more_set c.loop-i.rules i c.in_ok-rule.rule lt)
+    ∙ lines_more n c.args.requests c.loop-i.rest.now (take i c.loop-i.rules) i c.loop-i-test.true c.in_ok-rule.rule c.in_ok-rule.after.now (sym c.in_ok-rule.ensures)
     ∙ c.loop-i.invariant
 
 pub returns : goal.returns

@@ -1,4 +1,4 @@
-use Rattle.layers.specs.Boths.{both_granted}
+use Rattle.layers.proofs.Boths.{both_granted}
 use Rattle.layers.proofs.both.BothOracle.grant.Goals as goal
 
 pub returns : goal.returns

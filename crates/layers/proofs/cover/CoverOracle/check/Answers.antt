@@ -2,8 +2,8 @@ use Rattle.std.proofs.Common.{◌≡◌, Bool, true, Option, sym, ap, ◌∙◌,
 use Rattle.sets.specs.Requests.{within}
 use Rattle.layers.specs.Asked.{CoverAsked, CoverChecked}
 use Rattle.layers.specs.Listed.{kept_list}
-use Rattle.layers.specs.Cases.{yes_if}
-use Rattle.layers.specs.Covers.{cover_checked}
+use Rattle.layers.proofs.Cases.{yes_if}
+use Rattle.layers.proofs.Covers.{cover_checked}
 use Rattle.layers.proofs.cover.CoverOracle.check.Goals as goal
 
 pub returns : goal.returns
@@ -18,4 +18,4 @@ returns g c =
     let near : within m.width s ≡ true = ap (λ w. within w s) (sym c.width.ensures) ∙ sym c.is_within.ensures ∙ c.if-not-is_within.false in
     let P : Option Bool → Type 0 = λ d. CoverAsked d fits unfits m s c.ask.result fits' unfits' m' in
     let asked : CoverChecked fits unfits m s c.ask.result fits' unfits' m' = yes_if (within m.width s) near (subst P c.in_default.ensures c.ask.ensures) in
-    record { 0 = cover_checked fits unfits m s c.ask.result fits' unfits' m' (g.O.Meant.lawful c.args.self.now.below) asked; asked = asked }
+    record { checked = cover_checked fits unfits m s c.ask.result fits' unfits' m' (g.O.Meant.lawful c.args.self.now.below) asked; asked = asked }

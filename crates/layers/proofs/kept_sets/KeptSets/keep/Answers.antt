@@ -1,5 +1,5 @@
 use Rattle.std.proofs.Common.{◌<◌, length, ap, arith, rules}
-use Rattle.layers.specs.KeptLists.{keep_room, keep_full}
+use Rattle.layers.proofs.KeptLists.{keep_room, keep_full}
 use Rattle.layers.proofs.kept_sets.KeptSets.keep.Goals as goal
 
 pub returns-then-held-lt-MOST : goal.returns-then-held-lt-MOST

@@ -10,40 +10,11 @@ use Rattle.oracle.specs.declared.CheckRefusal.TheVariants.{Outside}
 use Rattle.oracle.proofs.Checks.{spent, answered, answer_outside, answer_spent, answer_fit, checked_as, left_as, unchanged, kept}
 use Rattle.layers.specs.Asked.{Answer, most_kept, fits_after, unfits_after, CoverAsked, deciding, CoverChecked}
 use Rattle.layers.specs.Layered.{under_one, over_one, known, or_below, cover}
-use Rattle.layers.specs.Cases.{taken_none}
-use Rattle.layers.specs.KeptLists.{any_end, under_part, over_part}
-
--- the verdict as one test
-said : (under over below : Bool) → or_below (cond under (Some true) (cond over (Some false) None)) below ≡ (under || (not over && below))
-said true over below = refl
-said false true below = refl
-said false false below = refl
-
--- a part of a set that contains no kept unfit set contains none
-over_none : (t s : ℕ) (ks : List ℕ) → Part t s → over_one s ks ≡ false → over_one t ks ≡ false
-over_none t s ks p none = elim (cases_Bool (over_one t ks)) [ inl over ↦ absurd (both_ways (over_one s ks) none (over_part t s ks p over)) | inr e ↦ e ]
+use Rattle.layers.proofs.Cases.{taken_none}
+use Rattle.layers.specs.Laws.{over_none, cover_said}
+use Rattle.layers.proofs.KeptLists.{any_end}
 
 module _ (fits unfits : List ℕ) (m : Meaning) where
-  cover_said : (s : ℕ) → (cover fits unfits m).fit s ≡ (under_one s fits || (not (over_one s unfits) && m.fit s))
-  cover_said s = said (under_one s fits) (over_one s unfits) (m.fit s)
-
-  pub cover_lawful : Lawful m → Lawful (cover fits unfits m)
-  cover_lawful law = record {
-    narrow = law.narrow;
-    counted = law.counted;
-    labelled = law.labelled;
-    downward = λ t s near p fit.
-        cover_said t ∙ elim (or_cases (under_one s fits) (not (over_one s unfits) && m.fit s) (sym (cover_said s) ∙ fit)) [
-          | inl under ↦ or_left (under_one t fits) (not (over_one t unfits) && m.fit t) (under_part t s fits p under)
-          | inr below ↦
-              let two = and_parts (not (over_one s unfits)) (m.fit s) below in
-              or_right (under_one t fits) (not (over_one t unfits) && m.fit t)
-              (and_from (not (over_one t unfits)) (m.fit t)
-              (not_from_false (over_one t unfits) (over_none t s unfits p (not-true (over_one s unfits) two.0)))
-              (law.downward t s near p two.1))
-        ];
-  }
-
   -- the oracle below may change, and what is kept may grow, if the verdicts stay
   cover_kept : (fits' unfits' : List ℕ) (m' : Meaning) → Kept m m' → ((x : ℕ) → Within m.width x → (cover fits' unfits' m).fit x ≡ (cover fits unfits m).fit x)
       → Kept (cover fits unfits m) (cover fits' unfits' m')

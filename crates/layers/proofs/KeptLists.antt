@@ -44,18 +44,3 @@ any_end test [] s = elim (test s) as (λ b. (b || false) ≡ b) [ true ↦ refl 
 any_end test (k ∷ ks) s =
     elim (test k) as (λ b. (b || any_kept test (ks ++ (s ∷ []))) ≡ ((b || any_kept test ks) || test s)) [ true ↦ refl | false ↦ any_end test ks s ]
 
--- a test that holds wherever another does
-any_more : (f g : ℕ → Bool) → ((k : ℕ) → f k ≡ true → g k ≡ true) → (ks : List ℕ) → any_kept f ks ≡ true → any_kept g ks ≡ true
-any_more f g less [] holds = holds
-any_more f g less (k ∷ ks) holds =
-    elim (or_cases (f k) (any_kept f ks) holds) [
-      | inl here ↦ or_left (g k) (any_kept g ks) (less k here)
-      | inr later ↦ or_right (g k) (any_kept g ks) (any_more f g less ks later)
-    ]
-
--- a part of a set that is under one is under it, and a set with a part that is over one is over it
-pub under_part : (t s : ℕ) (ks : List ℕ) → Part t s → under_one s ks ≡ true → under_one t ks ≡ true
-under_part t s ks p = any_more (λ k. part s k) (λ k. part t k) (λ k h. true_part t k (part_trans t s k p (part_true s k h))) ks
-
-pub over_part : (t s : ℕ) (ks : List ℕ) → Part t s → over_one t ks ≡ true → over_one s ks ≡ true
-over_part t s ks p = any_more (λ k. part k t) (λ k. part k s) (λ k h. true_part k s (part_trans k t s (part_true k t h) p)) ks

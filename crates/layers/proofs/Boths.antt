@@ -10,26 +10,8 @@ use Rattle.oracle.specs.declared.GrantRefusal.{GrantRefusal}
 use Rattle.oracle.proofs.Checks.{spent, answered, answer_outside, answer_spent, answer_fit, checked_as, left_as, unchanged, kept}
 use Rattle.layers.specs.Asked.{Answer, says_fit, InTurn, BothAsked, BothChecked}
 use Rattle.layers.specs.Layered.{lesser, both}
-use Rattle.layers.specs.Cases.{nought_lesser, counted_lesser, taken_lesser, taken_none, grown_lesser}
-
--- a set within the smaller width is within both
-within_left : (a b s : ℕ) → Within (min a b) s → Within a s
-within_left a b s near = lt_of_lt_of_le near (pow_mono (omega arith))
-
-within_right : (a b s : ℕ) → Within (min a b) s → Within b s
-within_right a b s near = lt_of_lt_of_le near (pow_mono (omega arith))
-
-pub both_lawful : (l r : Meaning) → Lawful l → Lawful r → Lawful (both l r)
-both_lawful l r ll lr = record {
-  narrow = omega (arith, ll.narrow);
-  counted = counted_lesser l.allowance r.allowance ll.counted lr.counted;
-  labelled = cond_both (nought l.allowance) l.label r.label (λ x. x ≤ last_label) (λ e. ll.labelled) (λ e. lr.labelled);
-  downward = λ t s near part fit.
-      let two = and_parts (l.fit s) (r.fit s) fit in
-      and_from (l.fit t) (r.fit t)
-      (ll.downward t s (within_left l.width r.width s near) part two.0)
-      (lr.downward t s (within_right l.width r.width s near) part two.1);
-}
+use Rattle.layers.specs.Laws.{within_left, within_right}
+use Rattle.layers.proofs.Cases.{nought_lesser, taken_lesser, taken_none, grown_lesser}
 
 kept_both : (l l' r r' : Meaning) → Kept l l' → Kept r r' → Kept (both l r) (both l' r')
 kept_both l l' r r' kl kr = (

@@ -22,11 +22,6 @@ nought_lesser (Some zero) (Some b) = let e : min zero b ≡ zero = omega arith i
 nought_lesser (Some (suc a)) (Some zero) = let e : min (suc a) zero ≡ zero = omega arith in ap (λ n. nought (Some n)) e
 nought_lesser (Some (suc a)) (Some (suc b)) = let e : min (suc a) (suc b) ≡ suc (min a b) = omega arith in ap (λ n. nought (Some n)) e
 
-pub counted_lesser : (a b : Option ℕ) → Counted a → Counted b → Counted (lesser a b)
-counted_lesser None b ca cb = cb
-counted_lesser (Some a) None ca cb = ca
-counted_lesser (Some a) (Some b) ca cb = omega arith
-
 -- one of two numbers less by one: their smaller one is the same or less by one
 less_one : (a b : ℕ) → (min a b ≡ min a (suc b)) ⊎ (suc (min a b) ≡ min a (suc b))
 less_one a b = elim (cases_lt b a) [ inl above ↦ inr (omega arith) | inr below ↦ inl (omega arith) ]

@@ -1,0 +1,4 @@
+pub mod Boths
+pub mod Cases
+pub mod Covers
+pub mod KeptLists
