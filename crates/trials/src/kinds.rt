@@ -202,14 +202,15 @@ fn each_set(
     width: u32,
     sets: &[u32],
     fit: bool,
-) -> Result<(), Fail> {
+    lines: &str,
+) {
     for bits in sets {
         assert_eq!(rt;
             (*bits, told(kind, rules, width, *bits)),
-            (*bits, wanted(fit))
+            (*bits, wanted(fit)),
+            "{lines}"
         );
     }
-    Ok(())
 }
 
 fn each_case(rt: &impl Abort, kind: Kind, heap: Global, cases: &[Case]) -> Result<(), Fail> {
@@ -217,8 +218,8 @@ fn each_case(rt: &impl Abort, kind: Kind, heap: Global, cases: &[Case]) -> Resul
         let mut rules = [Rule::blank(); MOST];
         let text = ticket_of(heap, case)?;
         let width = read(text.as_bytes(), &mut rules)?.requests;
-        each_set(rt, kind, &rules, width, case.2, true).note(case.1)?;
-        each_set(rt, kind, &rules, width, case.3, false).note(case.1)?;
+        each_set(rt, kind, &rules, width, case.2, true, case.1);
+        each_set(rt, kind, &rules, width, case.3, false, case.1);
     }
     Ok(())
 }

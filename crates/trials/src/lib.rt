@@ -3,12 +3,14 @@
 
 #[cfg(test)]
 mod agreed;
+#[cfg(test)]
 mod asked;
 #[cfg(test)]
 mod kinds;
 #[cfg(test)]
 mod layered;
 mod made;
+#[cfg(test)]
 mod played;
 mod probe;
 mod search;

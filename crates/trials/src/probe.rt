@@ -3,7 +3,7 @@ ghost use Rattle.std.specs.Prelude.{◌≤◌};
 ghost use Rattle.oracle.specs.Meaning.{limit, last_label};
 ghost use Rattle.sets.specs.Requests.{widest};
 ghost use Rattle.sets.specs.Sets.{bits_of};
-ghost use Rattle.trials.specs.Probing.{probing};
+ghost use Rattle.trials.specs.Probing.{probing, probing_lawful};
 
 use oracle::{CheckRefusal, GrantRefusal, LIMIT, Meant, Oracle, Verdict, WIDEST, granted};
 use sets::Set;
@@ -23,6 +23,8 @@ pub struct Probe {
 
 impl Meant for Probe {
     ghost meaning = { λ o. probing o.width (bits_of o.whole) o.endless o.number o.label };
+
+    ghost lawful = { λ o. probing_lawful o.width (bits_of o.whole) o.endless o.number o.label o.narrow o.counted o.labelled };
 }
 
 impl Oracle for Probe {

@@ -14,7 +14,7 @@ returns c =
     let width = c.args.width in
     let checks = c.args.checks in
     let answer : c.check.result ≡ together rules width checks =
-    c.check.ensures.0.0
+    c.check.ensures.checked.0
     ∙ ap (λ m. check_answer m c.all.result.bits) c.pile-oracle.ensures.meant
     ∙ ap (check_answer (piled rules width checks)) c.all.ensures in
     let P : Result Verdict CheckRefusal → Type 0 = λ r. ToldTogether rules width checks r in
