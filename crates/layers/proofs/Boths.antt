@@ -1,10 +1,10 @@
 -- Both is an oracle: from what it asks of its sides, what it answers and leaves. Assumes nothing.
-use Rattle.std.specs.Prelude.{◌≡◌, ℕ, ◌+◌, ◌^◌, ◌<◌, ◌≤◌, min, Bool, true, false, cond, not, ◌&&◌, ◌||◌, ◌⊎◌, Ok, Err, Result, refl}
-use Rattle.std.proofs.Common.{inl, inr, sym, ap, subst, ◌∙◌, lt_of_lt_of_le, arith, pow_mono}
-use Rattle.std.proofs.lemmas.Bool.{cases_Bool, cond-true, cond-false, cond_both, and_parts, and_cases, and_from, ltb-true, lt-ltb, not-true, not-false, not_from_false, true≢false}
-use Rattle.sets.specs.Requests.{Within, within}
-use Rattle.oracle.specs.Asking.{nought, verdict, check_answer, Taken, AfterCheck, Checked, grown, Granted, AfterGrant}
-use Rattle.oracle.specs.Meaning.{Meaning, last_label, Lawful, Kept, Unchanged}
+use Rattle.std.specs.Prelude.{◌≡◌, ℕ, ◌^◌, min, true, false, cond, not, ◌&&◌, ◌||◌, Ok, Err, Result}
+use Rattle.std.proofs.Common.{inl, inr, sym, ap, subst, ◌∙◌}
+use Rattle.std.proofs.lemmas.Bool.{cases_Bool, cond-true, cond-false, and_parts, ltb-true, lt-ltb, not-true}
+use Rattle.sets.specs.Requests.{within}
+use Rattle.oracle.specs.Asking.{nought, verdict, check_answer, Taken, Checked, grown, Granted, AfterGrant}
+use Rattle.oracle.specs.Meaning.{Meaning, Kept, Unchanged}
 use Rattle.oracle.specs.declared.CheckRefusal.TheVariants.{Outside, Spent}
 use Rattle.oracle.specs.declared.GrantRefusal.{GrantRefusal}
 use Rattle.oracle.proofs.Checks.{spent, answered, answer_outside, answer_spent, answer_fit, checked_as, left_as, unchanged, kept}

@@ -1,9 +1,9 @@
 -- A statement that depends on a test, in each case; and what is left of two allowances. Assumes nothing.
-use Rattle.std.specs.Prelude.{◌≡◌, ℕ, zero, suc, ◌+◌, ◌≤◌, min, Bool, true, false, ◌||◌, ◌⊎◌, Some, None, Option, refl}
-use Rattle.std.proofs.Common.{inl, inr, sym, ap, subst, ◌∙◌, arith}
+use Rattle.std.specs.Prelude.{◌≡◌, ℕ, zero, suc, ◌+◌, min, Bool, true, false, ◌||◌, ◌⊎◌, Some, None, Option, refl}
+use Rattle.std.proofs.Common.{inl, inr, sym, ap, ◌∙◌, arith}
 use Rattle.std.proofs.lemmas.Bool.{cases_lt, true≢false}
 use Rattle.oracle.specs.Asking.{nought, Taken, grown}
-use Rattle.oracle.specs.Meaning.{limit, Counted}
+use Rattle.oracle.specs.Meaning.{limit}
 use Rattle.layers.specs.Asked.{If}
 use Rattle.layers.specs.Layered.{lesser}
 

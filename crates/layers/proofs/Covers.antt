@@ -1,8 +1,8 @@
 -- Cover is an oracle: from what it keeps and what it asks below, what it answers and leaves. Assumes nothing.
 use Rattle.std.specs.Prelude.{◌≡◌, ℕ, ◌^◌, Bool, true, false, cond, not, ◌&&◌, ◌||◌, List, [], ◌∷◌, ◌++◌, length, Some, None, Ok, Err, Option, nat_lt, refl}
 use Rattle.std.proofs.Common.{inl, inr, sym, ap, subst, ◌∙◌, arith}
-use Rattle.std.proofs.lemmas.Bool.{cases_Bool, cond_both, or_cases, or_left, or_right, and_parts, and_from, not-true, not_from_false, ltb-true, both_ways}
-use Rattle.sets.specs.Requests.{Within, within, Part, part}
+use Rattle.std.proofs.lemmas.Bool.{cases_Bool, cond_both, and_from, not_from_false, ltb-true, both_ways}
+use Rattle.sets.specs.Requests.{Within, within, part}
 use Rattle.sets.proofs.Parts.{part_true}
 use Rattle.oracle.specs.Asking.{nought, verdict, check_answer, AfterCheck, Checked}
 use Rattle.oracle.specs.Meaning.{Meaning, Lawful, Kept}

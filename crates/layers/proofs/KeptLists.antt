@@ -1,14 +1,12 @@
 -- The kept sets: one more, a test of them one by one, and the tests of a part. Assumes nothing.
-use Rattle.std.specs.Prelude.{◌≡◌, ℕ, ◌+◌, ◌<◌, ◌≤◌, Bool, true, false, ◌||◌, List, [], ◌∷◌, ◌++◌, map, length, take, drop, set, slice_index_or, slice_set, refl}
-use Rattle.std.proofs.Common.{inl, inr, sym, ap, ◌∙◌, arith}
+use Rattle.std.specs.Prelude.{◌≡◌, ℕ, ◌+◌, ◌<◌, ◌≤◌, Bool, true, false, ◌||◌, List, [], ◌∷◌, ◌++◌, map, length, take, drop, slice_index_or, slice_set, refl}
+use Rattle.std.proofs.Common.{sym, ap, ◌∙◌, arith}
 use Rattle.std.proofs.lemmas.List.{length-map, take_more_set, map_push, at_drop_more, at_drop_all}
-use Rattle.std.proofs.lemmas.Bool.{cond-true, cond-false, or_cases, or_left, or_right, lt-ltb, le-ltb}
-use Rattle.sets.specs.Requests.{Part, part}
+use Rattle.std.proofs.lemmas.Bool.{cond-true, cond-false, or_left, lt-ltb, le-ltb}
 use Rattle.sets.specs.Sets.{bits_of}
 use Rattle.sets.specs.declared.set.Set.{Set}
-use Rattle.sets.proofs.Parts.{part_trans, part_true, true_part}
 use Rattle.layers.specs.Asked.{most_kept, kept_one}
-use Rattle.layers.specs.Layered.{any_kept, under_one, over_one}
+use Rattle.layers.specs.Layered.{any_kept}
 
 -- one more is behind the others, where there is room
 module _ (count : ℕ) (sets : List Set) (s : Set) where
@@ -43,4 +41,3 @@ pub any_end : (test : ℕ → Bool) (ks : List ℕ) (s : ℕ) → any_kept test 
 any_end test [] s = elim (test s) as (λ b. (b || false) ≡ b) [ true ↦ refl | false ↦ refl ]
 any_end test (k ∷ ks) s =
     elim (test k) as (λ b. (b || any_kept test (ks ++ (s ∷ []))) ≡ ((b || any_kept test ks) || test s)) [ true ↦ refl | false ↦ any_end test ks s ]
-

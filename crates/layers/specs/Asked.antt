@@ -5,7 +5,6 @@ use Rattle.oracle.specs.Asking.{nought, verdict, check_answer, Checked}
 use Rattle.oracle.specs.Meaning.{Meaning, limit}
 use Rattle.oracle.specs.declared.CheckRefusal.{CheckRefusal}
 use Rattle.oracle.specs.declared.CheckRefusal.TheVariants.{Outside, Spent}
-use Rattle.oracle.specs.declared.GrantRefusal.{GrantRefusal}
 use Rattle.oracle.specs.declared.Verdict.{Verdict}
 use Rattle.layers.specs.Layered.{known}
 

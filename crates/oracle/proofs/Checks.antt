@@ -1,8 +1,8 @@
 -- The cases of a check, both ways: when each occurs, and what it then says. Assumes nothing.
-use Rattle.std.proofs.Common.{◌≡◌, ℕ, Bool, true, false, cond, Ok, Err, Result, sym, refl, ap, ◌∙◌, subst}
+use Rattle.std.proofs.Common.{◌≡◌, ℕ, true, false, Ok, Err, Result, sym, refl, ◌∙◌, subst}
 use Rattle.std.proofs.lemmas.Bool.{cond-true, cond-false}
 use Rattle.sets.specs.Requests.{within}
-use Rattle.oracle.specs.Asking.{nought, verdict, if_left, check_answer, Taken, AfterCheck, Checked}
+use Rattle.oracle.specs.Asking.{nought, verdict, if_left, check_answer, AfterCheck, Checked}
 use Rattle.oracle.specs.Meaning.{Meaning, Kept, Unchanged}
 use Rattle.oracle.specs.declared.CheckRefusal.{CheckRefusal}
 use Rattle.oracle.specs.declared.CheckRefusal.TheVariants.{Outside, Spent}

@@ -1,11 +1,10 @@
 -- What a new pile answers on all requests. Assumes nothing.
-use Rattle.std.proofs.Common.{◌≡◌, ℕ, zero, suc, ◌-◌, ◌^◌, ◌<◌, min, Bool, true, false, List, Some, Ok, Err, Result, sym, refl, ap, ◌∙◌, subst, arith, pow_pos}
+use Rattle.std.proofs.Common.{◌≡◌, ℕ, zero, suc, ◌-◌, ◌^◌, ◌<◌, min, true, false, List, Some, Result, sym, refl, ap, ◌∙◌, subst, arith, pow_pos}
 use Rattle.std.proofs.lemmas.Bool.{lt-ltb}
 use Rattle.sets.specs.Requests.{widest, within, everyone}
-use Rattle.oracle.specs.Asking.{nought, verdict}
+use Rattle.oracle.specs.Asking.{nought}
 use Rattle.oracle.specs.Meaning.{limit}
 use Rattle.oracle.specs.declared.CheckRefusal.{CheckRefusal}
-use Rattle.oracle.specs.declared.CheckRefusal.TheVariants.{Spent}
 use Rattle.oracle.specs.declared.Verdict.{Verdict}
 use Rattle.oracle.proofs.Checks.{answer_spent, answer_fit}
 use Rattle.rules.specs.declared.Rule.{Rule}

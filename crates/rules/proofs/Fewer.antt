@@ -1,12 +1,12 @@
 -- A part of a set has fewer rules in force: the same choice serves, so every part of a fit set is fit. Assumes nothing.
-use Rattle.std.proofs.Common.{◌≡◌, ℕ, ◌-◌, ◌≤◌, Bool, true, false, cond, ◌||◌, eqb, ltb, leb, List, [], ◌∷◌, Some, None, Option, sym, refl, subst, inl, inr, lit≤}
+use Rattle.std.proofs.Common.{◌≡◌, ℕ, ◌-◌, ◌≤◌, true, false, ◌||◌, eqb, ltb, leb, List, [], ◌∷◌, Some, None, Option, sym, refl, subst, inl, inr, lit≤}
 use mathlib.Core.Logic.{ite}
 use Rattle.std.proofs.lemmas.Bool.{false≢true, cases_Bool, cond-true, cond-false, and_parts, and_from, or_cases, or_left, or_right}
 use Rattle.sets.specs.Members.{has}
 use Rattle.sets.specs.Requests.{widest, names, Part}
 use Rattle.sets.proofs.Parts.{part_has}
 use Rattle.oracle.specs.Meaning.{Downward, Lawful}
-use Rattle.rules.specs.Choices.{Choice, Every, MeetsKind, FitBy}
+use Rattle.rules.specs.Choices.{Every, MeetsKind, FitBy}
 use Rattle.rules.specs.Force.{counts_for, if_valid, in_force, and_then, said}
 use Rattle.rules.specs.RuleMeaning.{rule_meaning}
 use Rattle.rules.specs.declared.Body.{Body}

@@ -4,7 +4,7 @@
 -- whether face p counts. What is tried is one number too, with 1 at place 0 and face p at place p + 1. The equation holds
 -- where the two have an even number of places in common.
 -- A row of the list is an equation with that place as its lowest above 0, or 0 where there is none.
-use Rattle.std.specs.Prelude.{ℕ, zero, suc, ◌+◌, ◌*◌, ◌/◌, ◌%◌, ◌^◌, Bool, true, false, cond, List, [], ◌∷◌, set, replicate, pos, Some, None, Option, ◌==◌, bit_and, bit_xor, count_ones, nat_lt, slice_index, slice_set}
+use Rattle.std.specs.Prelude.{ℕ, zero, suc, ◌+◌, ◌*◌, ◌/◌, ◌%◌, ◌^◌, Bool, true, false, cond, List, [], ◌∷◌, replicate, pos, Some, None, Option, ◌==◌, bit_and, bit_xor, count_ones, nat_lt, slice_index, slice_set}
 use Rattle.sets.specs.Masks.{number_of}
 use Rattle.sets.specs.Members.{has}
 use Rattle.rules.specs.Choices.{Choice}

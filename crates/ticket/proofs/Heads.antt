@@ -2,7 +2,6 @@
 use Rattle.std.proofs.Common.{◌≡◌, ℕ, ◌≤◌, leb, List, ◌++◌, map, length, Some, None, codes, decimal, Option, sym, refl, ap, ◌∙◌, subst, arith}
 use Rattle.std.proofs.lemmas.Bool.{and_parts, and_from, leb-true, le-leb}
 use Rattle.std.specs.List.{flat_map}
-use Rattle.rules.specs.declared.Body.TheVariants as body
 use Rattle.sets.specs.Members.{none, added_all, members}
 use Rattle.ticket.specs.Ruled.{head_of}
 use Rattle.ticket.specs.Text.{set_text, head_text}

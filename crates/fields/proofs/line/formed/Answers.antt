@@ -2,7 +2,6 @@ use Rattle.std.proofs.Common.{◌+◌, ◌<◌, length, take, drop, sym, ap, ◌
 use Rattle.std.proofs.lemmas.List.{take_more_set}
 use Rattle.fields.specs.Cuts.{fields, first_field}
 use Rattle.fields.specs.Formed.{formed}
-use Rattle.fields.specs.Layout.{column}
 use Rattle.fields.specs.Numbers.{said}
 use Rattle.fields.proofs.Forming.{prepended, rest_later, formed_fault, formed_more, formed_all}
 use Rattle.fields.proofs.line.formed.Goals as goal

@@ -1,7 +1,7 @@
 use Rattle.std.proofs.Common.{◌≡◌, min, true, false, sym, refl, ◌∙◌}
 use Rattle.std.proofs.lemmas.Bool.{not-false}
 use Rattle.sets.specs.Requests.{within}
-use Rattle.layers.specs.Asked.{only_right_spent, BothAsked, BothChecked}
+use Rattle.layers.specs.Asked.{only_right_spent, BothChecked}
 use Rattle.layers.proofs.Boths.{both_checked}
 use Rattle.layers.proofs.Cases.{yes_if, no_if}
 use Rattle.layers.proofs.both.BothOracle.check.Goals as goal
