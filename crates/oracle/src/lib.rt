@@ -78,8 +78,7 @@ pub fn granted(checks: u32) -> Result<(), GrantRefusal>
     Ok(())
 }
 
-// What an oracle means, and the law of it. It is a trait of its own, with no functions, since Rattle writes no proof of a block that has a
-// law, functions and a lifetime.
+// What an oracle means, and the law of it; the calls stand in a trait above it.
 pub trait Meant {
     ghost meaning: { Self → Meaning };
 

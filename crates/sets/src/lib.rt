@@ -1,4 +1,5 @@
-// Sets of small numbers, each held as one number: options and faces as a `Mask`, requests as a `Set`.
+// Sets of numbers from 0 to 31, each held as one number: i is in the set if the bit worth 2^i is set.
+// Options and faces are held so as a `Mask`. Requests are held as a `Set`: request r is the bit worth 2^(r-1).
 #![tactic(auto)]
 
 mod set;
