@@ -61,7 +61,8 @@ for path, name, sign, body in ALL:
 for path in sorted(glob.glob(os.path.join(TREE, "crates/*/src/**/*.rt"), recursive=True)):
     for m in re.finditer(r"struct (\w+)[^{;]*\{([^}]*\bbool,[^}]*)", code(open(path).read())):
         flags = re.findall(r"(\w+): bool", m.group(2))
-        note("1", os.path.relpath(path, TREE), m.group(1), "flags " + ", ".join(flags))
+        if len(re.findall(r"\w+: ", m.group(2))) > len(flags):
+            note("1", os.path.relpath(path, TREE), m.group(1), "flags " + ", ".join(flags))
 
 # 2: bodies of the same shape, but for types, numbers and text
 groups = collections.defaultdict(list)
@@ -86,9 +87,9 @@ for path, name, sign, body in ALL:
 
 # 4: equality, order, conversion and printing by hand
 for path, name, sign, body in ALL:
-    if re.search(r"\bfn (bits|number|value|kind_of|number_of|to_\w+|as_\w+|eq|cmp)\b", sign):
+    if re.search(r"\bfn ((bits|number|value|(to|into)_\w+|eq|cmp)\(&?self\b|kind_of\b)", sign):
         note("4", path, name, "a conversion or comparison")
-    for m in re.finditer(r"\w+(?:\([^()]*\)|\.\w+)* as (?:u32|i32|u64|usize)\b", body):
+    for m in re.finditer(r"\w+(?:\([^()]*\)|\.\w+)* as (?:u32|i32|u64)\b", body):
         note("4", path, name, m.group(0))
     if re.search(r"^ *(Some\(0\) => true|None => true|Ok\(\w+\) => \w+\.fit),", body, re.M):
         note("4", path, name, "equality or order by a match")

@@ -14,13 +14,7 @@ const ROOM: usize = 96;
 fn count(rules: &[Rule], kind: Kind) -> usize
     ensures { result ≡ count_of kind rules.now }
 {
-    let mut n: usize = 0;
-    for rule in rules {
-        if rule.is_of(kind) {
-            n += 1;
-        }
-    }
-    n
+    rules.iter().filter(|rule| rule.is_of(kind)).count()
 }
 
 // The three numbers of a ticket, a line each.
@@ -74,7 +68,9 @@ fn accepted(heap: Global, header: Header, rules: &[Rule]) -> Result<String, Allo
 pub fn summarize(heap: Global, text: &[u8]) -> Result<String, AllocError>
     ensures { IfOk result (λ s. string_bytes s ≡ summary_of text.now) }
 {
+    // A table, since `read` fills a list that is lent to it.
     let mut rules = [Rule::blank(); ROOM];
+    // Both answers are printed, so neither leaves by `?`.
     match read(text, &mut rules) {
         Ok(header) => accepted(heap, header, &rules),
         Err(fault) => format!(in heap; "refused={fault}\n"),

@@ -1,11 +1,13 @@
 -- An equation on its way through the rows, from place to place. Assumes nothing.
-use Rattle.std.proofs.Common.{◌≡◌, ℕ, zero, suc, ◌+◌, ◌-◌, ◌<◌, ◌≤◌, true, false, cond, eqb, List, get_or, set, Some, None, sym, ap, ◌∙◌, ap₂, inl, inr, arith}
+use Rattle.std.proofs.Common.{◌≡◌, ℕ, zero, suc, ◌+◌, ◌-◌, ◌<◌, ◌≤◌, true, false, cond, eqb, List, get_or, set, Some, None, sym, refl, ap, ◌∙◌, ap₂, inl, inr, arith}
+use Rattle.std.specs.Bool.{then_some}
 use lib.Bits.{bit_xor}
 use Rattle.std.proofs.lemmas.Bool.{cond-true, cond-false, cases_lt}
 use Rattle.sets.specs.Members.{has}
 use Rattle.rules.specs.Elimination.{reduced}
 use Rattle.rules.proofs.Rows.{reduced_end, reduced_step}
-use Rattle.faces.specs.Steps.{First}
+use Rattle.faces.specs.Steps.{First, rows_after}
+use Rattle.faces.specs.declared.rows.Rows.{Rows}
 
 -- k places that the equation has not
 skip : (k count q : ℕ) (rows : List ℕ) (e : ℕ) → ((i : ℕ) → q ≤ i → i < q + k → has e i ≡ false) → reduced (k + count) q rows e ≡ reduced count (q + k) rows e
@@ -16,6 +18,11 @@ skip (suc k) count q rows e away =
     ∙ cond-false (has e q) _ (reduced (k + count) (suc q) rows e) (away q (omega arith) (omega arith))
     ∙ skip k count (suc q) rows e (λ i from below. away i (omega arith) (omega arith))
     ∙ ap (λ p. reduced count p rows e) (omega arith)
+
+-- what is left of the equation decides whether the rows stand
+pub stand : (e : ℕ) (rows : Rows) → rows_after (then_some (eqb e 0) tt) rows ≡ cond (eqb e 0) (Some rows.rows) None
+stand e rows =
+    elim (eqb e 0) as (λ t. rows_after (then_some t tt) rows ≡ cond t (Some rows.rows) None) [ true ↦ refl | false ↦ refl ]
 
 module _ (rows : List ℕ) where
   -- past the last place

@@ -1,4 +1,3 @@
-pub mod Deciding
 pub mod Entering
 pub mod Following
 pub mod Trailing

@@ -1,4 +1,3 @@
 pub mod Examples
-pub mod Found
 pub mod Steps
 pub mod Verdict

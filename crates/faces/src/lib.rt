@@ -3,72 +3,52 @@
 
 mod rows;
 
-ghost use Rattle.std.specs.Prelude.{◌≡◌, ◌≤◌, min};
+ghost use Rattle.std.specs.Prelude.{◌≡◌, min, is_some};
 ghost use Rattle.sets.specs.Requests.{widest};
 ghost use Rattle.sets.specs.Sets.{bits_of};
 ghost use Rattle.oracle.specs.Asking.{Checked, Granted};
 ghost use Rattle.faces.specs.Examples.{TwoFit, ThreeUnfit};
-ghost use Rattle.faces.specs.Found.{Found};
-ghost use Rattle.faces.specs.Verdict.{fit as fit_faces, meant};
+ghost use Rattle.faces.specs.Verdict.{fit as fit_faces, meant, Found};
 ghost use Rattle.rules.proofs.FacesDecided.{faces_decided};
 ghost use Rattle.rules.proofs.Fewer.{rule_lawful};
 ghost use Rattle.rules.specs.declared.Kind.TheVariants as kind;
 
-use oracle::{CheckRefusal, GrantRefusal, Meant, Oracle, Verdict, WIDEST, granted};
-use rows::{ROWS, enter_by, solve};
-use rules::{FaceSet, Rule};
-use sets::{Mask, Set};
+use oracle::{CheckRefusal, GrantRefusal, Oracle, Verdict, granted, refuse_outside};
+use rows::back;
+use rules::{FaceSet, Rule, RuleList};
+use sets::Set;
 
 // The rules of faces of a list; rules of other kinds are passed over.
 #[derive(Drop)]
 pub struct Faces<'a> {
-    rules: &'a [Rule],
-    width: u32,
-    ghost narrow: { width ≤ widest },
+    list: RuleList<'a>,
 }
 
 impl<'a> Faces<'a> {
     // The width is cut at 32.
     pub fn new(rules: &'a [Rule], width: u32) -> Faces<'a>
-        ensures { (result.rules.now ≡ rules.now) × (result.width ≡ min width widest) }
+        ensures { (result.list.rules.now ≡ rules.now) × (result.list.width ≡ min width widest) }
     {
         Faces {
-            rules,
-            width: width.min(WIDEST),
+            list: RuleList::new(rules, width),
         }
     }
 
     // The faces to put at the back, or none.
     fn find(&self, set: Set) -> Option<FaceSet>
-        ensures { Found self.now.rules.now (bits_of set) result }
+        ensures found { Found self.now.list.rules.now (bits_of set) result }
+        ensures verdict { is_some result ≡ fit_faces self.now.list.rules.now (bits_of set) }
     {
-        let mut rows = [0; ROWS];
-        for rule in self.rules {
-            if !enter_by(&mut rows, rule, set) {
-                return None;
-            }
-        }
-        Some(FaceSet {
-            members: Mask::new(solve(&rows)),
-        })
-    }
-
-    fn is_fit(&self, set: Set) -> bool
-        ensures { result ≡ fit_faces self.now.rules.now (bits_of set) }
-    {
-        self.find(set).is_some()
+        back(self.list.rules(), set)
     }
 }
 
-impl<'a> Meant for Faces<'a> {
-    ghost meaning = { λ o. meant o.width o.rules.now };
-
-    ghost lawful = { λ o. rule_lawful kind.Faces faces_decided o.rules.now o.width o.narrow };
-}
-
+// Like the blocks of `options` and `gaps`, since the project has an oracle of its own for each kind of rule; what they share is in `rules` and `oracle`.
 impl<'a> Oracle for Faces<'a> {
+    ghost meaning = { λ o. meant o.list.width o.list.rules.now };
+
     fn width(&self) -> u32 {
-        self.width
+        self.list.width()
     }
 
     fn left(&self) -> Option<u32> {
@@ -77,23 +57,23 @@ impl<'a> Oracle for Faces<'a> {
 
     // A check changes nothing.
     fn check(&mut self, set: Set) -> Result<Verdict, CheckRefusal>
-        ensures checked { Checked (meant self.old.width self.old.rules.now) (bits_of set) result (meant self.new.width self.new.rules.now) }
+        ensures checked { Checked (meant self.old.list.width self.old.list.rules.now) (bits_of set) result (meant self.new.list.width self.new.list.rules.now) }
         ensures same { self.new ≡ self.old }
     {
-        if !set.is_within(self.width) {
-            return Err(CheckRefusal::Outside);
-        }
+        refuse_outside(set, self.list.width())?;
         Ok(Verdict {
-            fit: self.is_fit(set),
+            fit: self.find(set).is_some(),
         })
     }
 
     fn grant(&mut self, checks: u32) -> Result<(), GrantRefusal>
-        ensures granted { Granted (meant self.old.width self.old.rules.now) checks result (meant self.new.width self.new.rules.now) }
+        ensures granted { Granted (meant self.old.list.width self.old.list.rules.now) checks result (meant self.new.list.width self.new.list.rules.now) }
         ensures same { self.new ≡ self.old }
     {
         granted(checks)
     }
+
+    ghost lawful = { λ o. rule_lawful kind.Faces faces_decided o.list.rules.now o.list.width o.list.narrow };
 }
 
 // The definitions call the sets of the example fit and unfit as they should: see specs/Examples.antt.

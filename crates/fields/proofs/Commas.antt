@@ -1,9 +1,9 @@
 -- Fields joined by commas, and the fields of such a text. Assumes nothing.
 use Rattle.std.proofs.Common.{◌≡◌, ℕ, ◌<◌, Bool, true, false, cond, eqb, List, [], ◌∷◌, ◌++◌, length, sym, refl, ap, ◌∙◌, ap₂, arith}
 use Rattle.std.proofs.lemmas.Bool.{cond-false, eqb-true, ne_eqb}
-use Rattle.std.specs.List.{flat_map, AllByRecursion}
-use Rattle.fields.specs.Cuts.{onto_first, fields}
-use Rattle.fields.proofs.Counting.{fields_some}
+use Rattle.std.proofs.lemmas.List.Splits.{length-slice_split}
+use Rattle.std.specs.List.{flat_map, onto_first, AllByRecursion}
+use Rattle.fields.specs.Cuts.{fields}
 use Rattle.fields.proofs.Splits.{Free, free_append}
 
 -- a comma before each field
@@ -40,7 +40,7 @@ commas_fields [] = refl
 commas_fields (b ∷ bs) = go (eqb b 44) refl (commas_fields bs)
   where
     go : (t : Bool) → eqb b 44 ≡ t → commas (fields bs) ≡ bs → commas (cond t ([] ∷ fields bs) (onto_first b (fields bs))) ≡ b ∷ bs
-    go true same more = tailed_commas (fields bs) (fields_some bs) ∙ ap₂ ◌∷◌ (sym (eqb-true b 44 same)) more
+    go true same more = tailed_commas (fields bs) (omega (arith, length-slice_split (λ c. eqb c 44) bs)) ∙ ap₂ ◌∷◌ (sym (eqb-true b 44 same)) more
     go false other more = commas_onto b (fields bs) ∙ ap (λ xs. b ∷ xs) more
 
 -- no byte m in the text where none is in a field, and m is no comma

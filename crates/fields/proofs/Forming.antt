@@ -1,7 +1,6 @@
 -- What the fields say, from the first to the last. Assumes nothing.
-use Rattle.std.proofs.Common.{◌≡◌, ℕ, suc, ◌+◌, ◌<◌, ◌≤◌, List, [], ◌∷◌, ◌++◌, length, take, drop, Some, None, Ok, Err, Result, sym, refl, ap, ◌∙◌, append_assoc, append-nil, add-one, arith, length-drop}
-use Rattle.std.proofs.lemmas.List.{drop-drop, drop_all, take_all}
-use Rattle.fields.specs.Cuts.{cut, fields, first_field}
+use Rattle.std.proofs.Common.{◌≡◌, ℕ, ◌+◌, ◌<◌, ◌≤◌, List, [], ◌∷◌, ◌++◌, length, get_or, drop, Some, None, Ok, Err, Result, sym, refl, ap, ◌∙◌, append_assoc, append-nil, add-one}
+use Rattle.std.proofs.lemmas.List.{at_drop_more, drop_all}
 use Rattle.fields.specs.Faults.{at_field}
 use Rattle.fields.specs.Formed.{first_of, formed}
 use Rattle.fields.specs.Layout.{column}
@@ -10,7 +9,6 @@ use Rattle.fields.specs.declared.fault.FieldFault.{FieldFault}
 use Rattle.fields.specs.declared.fault.Flaw.TheVariants.{Form}
 use Rattle.fields.specs.declared.layout.Sort.{Sort}
 use Rattle.fields.specs.declared.value.Value.{Value}
-use Rattle.fields.proofs.Counting.{later_fields, fields_cut, fields_later}
 
 -- the values of the first fields, and what the others come to
 abbrev pub prepended : List Value → Result (List Value) FieldFault → Result (List Value) FieldFault
@@ -21,34 +19,27 @@ prepended_more : (vs : List Value) (v : Value) (e : FieldFault) (r : Result (Lis
 prepended_more vs v e (Ok us) = ap Ok (sym (append_assoc vs (v ∷ []) us))
 prepended_more vs v e (Err d) = refl
 
--- at field i + 1 of the value, of which rest holds that field and the later ones
-module _ (s : Sort) (line : ℕ) (value rest : List ℕ) (i : ℕ) (at : fields rest ≡ drop i (fields value)) where
-  here : drop i (fields value) ≡ (first_field rest).0 ∷ later_fields (cut 44 rest)
-  here = sym at ∙ fields_cut rest
+module _ (s : Sort) (line : ℕ) (fs : List (List ℕ)) (i : ℕ) (vs : List Value) where
+  -- what the first i fields say is vs
+  abbrev pub said_so_far : Result (List Value) FieldFault
+  said_so_far = prepended vs (formed s line (i + 1) (drop i fs))
 
-  later : later_fields (cut 44 rest) ≡ drop (i + 1) (fields value)
-  later = sym (ap (drop 1) here) ∙ drop-drop 1 i (fields value)
+  -- past the last field
+  pub formed_all : length fs ≤ i → said_so_far ≡ Ok vs
+  formed_all end = ap (λ l. prepended vs (formed s line (i + 1) l)) (drop_all i fs end) ∙ ap Ok (append-nil vs)
 
-  pub rest_later : i + 1 < length (fields value) → fields (first_field rest).1 ≡ drop (i + 1) (fields value)
-  rest_later more = fields_later rest (omega (arith, ap length later, length-drop (i + 1) (fields value))) ∙ later
+  -- at field i + 1
+  module _ (text : List ℕ) (lt : i < length fs) (at : text ≡ get_or fs i text) where
+    here : said_so_far ≡ prepended vs (first_of (at_field Form line (i + 1)) (said (column s 0 (i + 1)).style text) (formed s line (i + 1 + 1) (drop (i + 1) fs)))
+    here =
+        ap (prepended vs) (at_drop_more (formed s line (i + 1)) fs i text lt)
+        ∙ ap (λ f. prepended vs (formed s line (i + 1) (f ∷ drop (i + 1) fs))) (sym at)
+        ∙ ap (λ k. prepended vs (first_of (at_field Form line (i + 1)) (said (column s 0 (i + 1)).style text) (formed s line k (drop (i + 1) fs)))) (sym (add-one (i + 1)))
 
-  pub formed_fault : (vs : List Value) → said (column s 0 (i + 1)).style (first_field rest).0 ≡ None → prepended vs (formed s line (i + 1) (drop i (fields value))) ≡ Err (at_field Form line (i + 1))
-  formed_fault vs none =
-      ap (λ fs. prepended vs (formed s line (i + 1) fs)) here
-      ∙ ap (λ o. prepended vs (first_of (at_field Form line (i + 1)) o (formed s line (suc (i + 1)) (later_fields (cut 44 rest))))) none
+    pub formed_fault : said (column s 0 (i + 1)).style text ≡ None → said_so_far ≡ Err (at_field Form line (i + 1))
+    formed_fault none = here ∙ ap (λ o. prepended vs (first_of (at_field Form line (i + 1)) o (formed s line (i + 1 + 1) (drop (i + 1) fs)))) none
 
-  pub formed_more : (vs : List Value) (v : Value) → said (column s 0 (i + 1)).style (first_field rest).0 ≡ Some v → prepended (vs ++ v ∷ []) (formed s line (i + 1 + 1) (drop (i + 1) (fields value))) ≡ prepended vs (formed s line (i + 1) (drop i (fields value)))
-  formed_more vs v some =
-      let e = at_field Form line (i + 1) in
-      sym (
-      ap (λ fs. prepended vs (formed s line (i + 1) fs)) here
-      ∙ ap (λ o. prepended vs (first_of e o (formed s line (suc (i + 1)) (later_fields (cut 44 rest))))) some
-      ∙ prepended_more vs v e _
-      ∙ ap (λ fs. prepended (vs ++ v ∷ []) (formed s line (suc (i + 1)) fs)) later
-      ∙ ap (λ k. prepended (vs ++ v ∷ []) (formed s line k (drop (i + 1) (fields value)))) (sym (add-one (i + 1)))
-      )
-
--- past the last field
-pub formed_all : (s : Sort) (line k i : ℕ) (fs : List (List ℕ)) (vs : List Value) → length fs ≤ i → length vs ≤ i → prepended (take i vs) (formed s line k (drop i fs)) ≡ Ok vs
-formed_all s line k i fs vs end whole =
-    ap (λ l. prepended (take i vs) (formed s line k l)) (drop_all i fs end) ∙ ap Ok (append-nil (take i vs) ∙ take_all i vs whole)
+    pub formed_more : (v : Value) → said (column s 0 (i + 1)).style text ≡ Some v → said_so_far ≡ prepended (vs ++ v ∷ []) (formed s line (i + 1 + 1) (drop (i + 1) fs))
+    formed_more v some =
+        here ∙ ap (λ o. prepended vs (first_of (at_field Form line (i + 1)) o (formed s line (i + 1 + 1) (drop (i + 1) fs)))) some
+        ∙ prepended_more vs v (at_field Form line (i + 1)) (formed s line (i + 1 + 1) (drop (i + 1) fs))

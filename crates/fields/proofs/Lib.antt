@@ -1,13 +1,10 @@
 pub mod Commas
-pub mod Counting
 pub mod Cutting
-pub mod Digits
 pub mod Forming
-pub mod Judging
 pub mod Outcomes
-pub mod Passing
 pub mod Placed
 pub mod Spelling
 pub mod Splits
+pub mod Turns
 pub mod Valued
 pub mod WellWritten

@@ -1,7 +1,7 @@
 -- The values of a line, and the text after its key. Assumes nothing.
 use Rattle.std.proofs.Common.{◌≡◌, ℕ, ◌≤◌, Bool, true, false, cond, leb, List, [], ◌∷◌, map, length, drop, Some, None, Ok, Err, Option, Result, sym, refl, ap, ◌∙◌, subst, arith}
 use Rattle.std.proofs.lemmas.List.{length-map}
-use Rattle.std.proofs.lemmas.Bool.{and_parts, leb-true, false≢true}
+use Rattle.std.proofs.lemmas.Bool.{cond-true, and_from, and_parts, le-leb, leb-true, false≢true}
 use Rattle.rules.specs.declared.Kind.TheVariants.{Options, Gaps, Faces}
 use Rattle.fields.specs.Cuts.{fields}
 use Rattle.fields.specs.Faults.{at_field}
@@ -17,7 +17,6 @@ use Rattle.fields.specs.declared.layout.Sort.{Sort}
 use Rattle.fields.specs.declared.layout.Sort.TheVariants.{Header, Rule}
 use Rattle.fields.specs.declared.value.Value.{Value}
 use Rattle.fields.proofs.Commas.{commas, fields_commas, commas_fields}
-use Rattle.fields.proofs.Judging.{without_fault}
 use Rattle.fields.proofs.Outcomes.{err_no_ok, then_ok, mapped_ok, cond_ok, same_ok}
 use Rattle.fields.proofs.Placed.{Placed, formed_spelled, formed_says, placed_inside, placed_free}
 use Rattle.fields.proofs.Spelling.{spelled}
@@ -58,13 +57,21 @@ fields_spelled : (s : Sort) (requests : ℕ) (vs : List Value) → 1 ≤ length 
 fields_spelled s requests [] some placed = absurd (omega arith)
 fields_spelled s requests (v ∷ vs) some placed = fields_commas (spelled v) (map spelled vs) (placed_free s requests 1 (v ∷ vs) placed).0
 
+-- a line with as many fields as it may have, of which none is at fault
+without_fault : (s : Sort) (requests line : ℕ) (fs : List (List ℕ)) (vs : List Value) → fewest s ≤ length fs → length fs ≤ most s → formed s line 1 fs ≡ Ok vs → ranged s requests line vs ≡ Ok tt → ordered s line vs ≡ Ok tt → values_in s requests line fs ≡ Ok vs
+without_fault s requests line fs vs low high good fine also =
+    cond-true _ _ _ (and_from _ _ (le-leb _ _ low) (le-leb _ _ high))
+    ∙ ap (λ r. in_line (r >>= checked s requests line)) good
+    ∙ ap (λ (r : Result (Unit {0}) FieldFault). in_line (r >>= λ _. ordered s line vs >>= λ _. Ok vs)) fine
+    ∙ ap (λ (r : Result (Unit {0}) FieldFault). in_line (r >>= λ _. Ok vs)) also
+
 pub values_of_spelled : (s : Sort) (requests line : ℕ) (vs : List Value) → Valued s requests vs → values_of s requests line (commas (map spelled vs)) ≡ Ok vs
 values_of_spelled s requests line vs h =
     let value = commas (map spelled vs) in
     let some : 1 ≤ length vs = omega (arith, h.count.0, fewest_some s) in
     let same : fields value ≡ map spelled vs = fields_spelled s requests vs some h.placed in
     let many : length vs ≡ length (fields value) = sym (ap length same ∙ length-map vs spelled) in
-    without_fault s requests line value vs (subst (λ k. fewest s ≤ k) many h.count.0) (subst (λ k. k ≤ most s) many h.count.1)
+    without_fault s requests line (fields value) vs (subst (λ k. fewest s ≤ k) many h.count.0) (subst (λ k. k ≤ most s) many h.count.1)
     (ap (formed s line 1) same ∙ formed_spelled s requests line 1 vs h.placed)
     (ap (without Range line) (placed_inside s requests 1 vs h.placed))
     (ordered_when (ends_in_set s) line (first_unrisen None 3 (drop 2 vs)) h.order)

@@ -2,7 +2,8 @@
 use Rattle.std.specs.Prelude.{ℕ, ◌+◌, Bool, true, false, cond, ◌&&◌, ◌==◌, nat_le, unsigned_abs}
 use Rattle.rules.specs.declared.Kind.{Kind}
 use Rattle.rules.specs.declared.Kind.TheVariants.{Options, Gaps, Faces}
-use Rattle.fields.specs.Limits.{most_requests, most_checks, most_rules, last_option, last_face, last_mark, widest_gap, most_members}
+use Rattle.rules.specs.Limits.{last_option, last_face, last_mark, widest_gap, most_members}
+use Rattle.fields.specs.Limits.{most_requests, most_checks, most_rules}
 use Rattle.fields.specs.declared.layout.Column.{Column}
 use Rattle.fields.specs.declared.layout.Heading.{Heading}
 use Rattle.fields.specs.declared.layout.Heading.TheVariants.{Ticket, Requests, Checks, Rules}

@@ -5,10 +5,10 @@ ghost use Rattle.fields.specs.declared.fault.LineFault.TheVariants.{Field};
 
 #[derive(Clone, Copy, PartialEq, Eq, Debug)]
 pub enum Flaw {
-    Form,
-    Range,
-    Order,
-    Table,
+    Form = 5,
+    Range = 6,
+    Order = 7,
+    Table = 8,
 }
 
 #[derive(Clone, Copy, PartialEq, Eq, Debug)]
@@ -27,6 +27,7 @@ pub enum LineFault {
     Field(FieldFault),
 }
 
+// Written out, since std derives no `From`; each `?` between the two needs it.
 impl From<FieldFault> for LineFault {
     ghost from_gives = { λ e r. r ≡ Field e };
 
@@ -40,17 +41,12 @@ impl FieldFault {
     pub fn told(self) -> (u32, usize, usize)
         ensures { result ≡ told_field self }
     {
-        let number = match self.flaw {
-            Flaw::Form => 5,
-            Flaw::Range => 6,
-            Flaw::Order => 7,
-            Flaw::Table => 8,
-        };
-        (number, self.line, self.field)
+        (self.flaw as u32, self.line, self.field)
     }
 }
 
 impl LineFault {
+    // A case that holds a value can have no discriminant, so the numbers stand here.
     pub fn told(self) -> (u32, usize, usize)
         ensures { result ≡ told_line self }
     {

@@ -2,24 +2,13 @@
 ghost use Rattle.std.specs.Prelude.{◌≡◌};
 ghost use Rattle.fields.specs.Layout.{fewest, most, ends_in_set, numbers as plain_numbers, header_column, rule_column, column as column_of};
 
-use rules::Kind;
+use rules::{Kind, LAST_FACE, LAST_MARK, LAST_OPTION, MOST_MEMBERS, WIDEST_GAP};
 
 const MOST_REQUESTS: u32 = 32;
 
 const MOST_CHECKS: u32 = 1_000_000;
 
 const MOST_RULES: u32 = 96;
-
-const LAST_OPTION: u32 = 31;
-
-const LAST_FACE: u32 = 31;
-
-const LAST_MARK: u32 = 15;
-
-const WIDEST_GAP: u32 = 10_000;
-
-// The most options or faces of one rule.
-const MOST_MEMBERS: usize = 8;
 
 #[derive(Clone, Copy, PartialEq, Eq)]
 pub enum Heading {
@@ -74,7 +63,7 @@ impl Heading {
     }
 }
 
-// A field of a rule, after the owner.
+// A field of a rule, after the owner. The arms are the rows of a table, and so they stay a `match`.
 fn rule_column(kind: Kind, field: usize) -> Column
     ensures { result ≡ rule_column kind field }
 {
@@ -114,7 +103,7 @@ impl Sort {
         match self {
             Sort::Header(_) => 1,
             Sort::Rule(Kind::Gaps) => 4,
-            Sort::Rule(Kind::Options | Kind::Faces) => 2 + MOST_MEMBERS,
+            Sort::Rule(Kind::Options | Kind::Faces) => 2 + MOST_MEMBERS as usize,
         }
     }
 

@@ -11,5 +11,5 @@ mod value;
 pub use cuts::cut;
 pub use fault::{FieldFault, Flaw, LineFault};
 pub use layout::{Heading, Sort};
-pub use line::{MOST, checked};
+pub use line::{Form, MOST};
 pub use value::Value;

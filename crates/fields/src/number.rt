@@ -11,10 +11,7 @@ fn digits(field: &[u8]) -> Option<u32>
 {
     let mut sum: u32 = 0;
     for b in field {
-        if !b.is_ascii_digit() {
-            return None;
-        }
-        sum = sum * 10 + u32::from(*b - b'0');
+        sum = sum * 10 + char::from(*b).to_digit(10)?;
     }
     Some(sum)
 }

@@ -7,9 +7,10 @@ ghost use Rattle.fields.specs.Numbers.{number as number_of, plain, head, unsigne
 use crate::layout::{Column, Style};
 use crate::number::number;
 
-#[derive(Clone, Copy)]
+#[derive(Clone, Copy, Default)]
 pub enum Value {
     // `-` where a head is due: there is none
+    #[default]
     Dash,
     Plain(u32),
     // where a sign is allowed
@@ -43,10 +44,7 @@ impl Value {
 fn plain(field: &[u8]) -> Option<Value>
     ensures { result ≡ plain (number_of field.now) }
 {
-    match number(field) {
-        Some(n) => Some(Value::Plain(n)),
-        None => None,
-    }
+    number(field).map(Value::Plain)
 }
 
 fn head(field: &[u8]) -> Option<Value>
@@ -58,23 +56,20 @@ fn head(field: &[u8]) -> Option<Value>
     }
 }
 
+// By `as`, since every number of a field fits; a `try_from` would ask for a refusal that cannot occur. So in `negative`.
 fn unsigned(field: &[u8]) -> Option<Value>
     ensures { result ≡ unsigned (number_of field.now) }
 {
-    match number(field) {
-        Some(n) => Some(Value::Signed(n as i32)),
-        None => None,
-    }
+    number(field).map(|n| Value::Signed(n as i32))
 }
 
 // The digits after a `-`; 0 has none before it.
 fn negative(digits: &[u8]) -> Option<Value>
     ensures { result ≡ negative (number_of digits.now) }
 {
-    match number(digits) {
-        Some(n) if n > 0 => Some(Value::Signed(-(n as i32))),
-        _ => None,
-    }
+    number(digits)
+        .filter(|n| *n > 0)
+        .map(|n| Value::Signed(-(n as i32)))
 }
 
 fn width(field: &[u8]) -> Option<Value>
@@ -86,7 +81,7 @@ fn width(field: &[u8]) -> Option<Value>
     }
 }
 
-// What a field says that is to be written in the given style.
+// What a field says that is to be written in the given style. Each arm is one style: a table of functions would hide that there are three.
 pub fn said(style: Style, field: &[u8]) -> Option<Value>
     ensures { result ≡ says style field.now }
 {

@@ -1,24 +1,21 @@
--- Whether a set of requests is fit by its gaps. Assumes nothing.
-use Rattle.std.specs.Prelude.{ℕ, Bool, true, false, List, ℤ, Some, None, Option}
-use Rattle.std.proofs.Math.Logic.{ite}
+-- The verdict over the rules of letter g, and what a search for places finds. Assumes nothing.
+use Rattle.std.specs.Prelude.{ℕ, Bool, List, ℤ, Option}
+use Rattle.std.specs.Option.{option_map}
 use Rattle.oracle.specs.Meaning.{Meaning}
-use Rattle.rules.specs.Choices.{Every, MeetsKind, FitBy}
-use Rattle.rules.specs.Force.{said}
+use Rattle.rules.specs.Found.{fit_by, meant_by, FoundBy}
 use Rattle.rules.specs.Rounds.{placed}
-use Rattle.rules.specs.RuleMeaning.{rule_meaning}
-use Rattle.rules.specs.declared.Kind.TheVariants.{Gaps as of_gaps}
+use Rattle.rules.specs.declared.Kind.TheVariants as kind
 use Rattle.rules.specs.declared.Rule.{Rule}
 use Rattle.rules.proofs.GapsDecided.{gaps_decided}
 
--- true if some choice meets every gap in force for the set, and false if none does; the type of `gaps_decided` says so
+-- whether some choice meets every gap that is in force for a set of requests
 abbrev pub fit : List Rule → ℕ → Bool
-fit rules s = ite (gaps_decided rules s) true false
+fit = fit_by kind.Gaps gaps_decided
 
 -- what the oracle over a list of rules means
 abbrev pub meant : (width : ℕ) → List Rule → Meaning
-meant width rules = rule_meaning width (fit rules)
+meant = meant_by kind.Gaps gaps_decided
 
--- places of the marks that meet every gap in force for the set, or no choice does
+-- places of the marks that meet every gap in force for the set; none where no choice meets them
 abbrev pub Found : List Rule → ℕ → Option (List ℤ) → Type 0
-Found rules s None = FitBy of_gaps rules s → ⊥
-Found rules s (Some ps) = Every (MeetsKind of_gaps (placed ps)) (said s rules)
+Found rules s o = FoundBy kind.Gaps rules s (option_map placed o)

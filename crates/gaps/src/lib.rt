@@ -3,7 +3,7 @@
 
 mod rounds;
 
-ghost use Rattle.std.specs.Prelude.{◌≡◌, ◌≤◌, min};
+ghost use Rattle.std.specs.Prelude.{◌≡◌, min, is_some};
 ghost use Rattle.gaps.specs.Examples.{RingOfNought, RingOfLess};
 ghost use Rattle.gaps.specs.Verdict.{fit as fit_gaps, meant, Found};
 ghost use Rattle.oracle.specs.Asking.{Checked, Granted};
@@ -13,53 +13,42 @@ ghost use Rattle.rules.proofs.Fewer.{rule_lawful};
 ghost use Rattle.rules.proofs.GapsDecided.{gaps_decided};
 ghost use Rattle.rules.specs.declared.Kind.TheVariants as kind;
 
-use oracle::{CheckRefusal, GrantRefusal, Meant, Oracle, Verdict, WIDEST, granted};
+use oracle::{CheckRefusal, GrantRefusal, Oracle, Verdict, granted, refuse_outside};
 use rounds::settle;
-use rules::Rule;
+use rules::{Rule, RuleList};
 use sets::Set;
 
 // The rules on gaps of a list; rules of other kinds are passed over.
 #[derive(Drop)]
 pub struct Gaps<'a> {
-    rules: &'a [Rule],
-    width: u32,
-    ghost narrow: { width ≤ widest },
+    list: RuleList<'a>,
 }
 
 impl<'a> Gaps<'a> {
     // The width is cut at 32.
     pub fn new(rules: &'a [Rule], width: u32) -> Gaps<'a>
-        ensures { (result.rules.now ≡ rules.now) × (result.width ≡ min width widest) }
+        ensures { (result.list.rules.now ≡ rules.now) × (result.list.width ≡ min width widest) }
     {
         Gaps {
-            rules,
-            width: width.min(WIDEST),
+            list: RuleList::new(rules, width),
         }
     }
 
     // Places of the marks that serve for a set of requests, or none where no places do.
     fn find(&self, set: Set) -> Option<[i32; 16]>
-        ensures { Found self.now.rules.now (bits_of set) result }
+        ensures found { Found self.now.list.rules.now (bits_of set) result }
+        ensures verdict { is_some result ≡ fit_gaps self.now.list.rules.now (bits_of set) }
     {
-        settle(self.rules, set)
-    }
-
-    fn is_fit(&self, set: Set) -> bool
-        ensures { result ≡ fit_gaps self.now.rules.now (bits_of set) }
-    {
-        self.find(set).is_some()
+        settle(self.list.rules(), set)
     }
 }
 
-impl<'a> Meant for Gaps<'a> {
-    ghost meaning = { λ o. meant o.width o.rules.now };
-
-    ghost lawful = { λ o. rule_lawful kind.Gaps gaps_decided o.rules.now o.width o.narrow };
-}
-
+// Like the blocks of `options` and `faces`, since the project has an oracle of its own for each kind of rule; what they share is in `rules` and `oracle`.
 impl<'a> Oracle for Gaps<'a> {
+    ghost meaning = { λ o. meant o.list.width o.list.rules.now };
+
     fn width(&self) -> u32 {
-        self.width
+        self.list.width()
     }
 
     fn left(&self) -> Option<u32> {
@@ -68,24 +57,24 @@ impl<'a> Oracle for Gaps<'a> {
 
     // A set with a request above the width is refused; of any other, whether the marks can lie as the gaps in force ask. Nothing changes.
     fn check(&mut self, set: Set) -> Result<Verdict, CheckRefusal>
-        ensures checked { Checked (meant self.old.width self.old.rules.now) (bits_of set) result (meant self.new.width self.new.rules.now) }
+        ensures checked { Checked (meant self.old.list.width self.old.list.rules.now) (bits_of set) result (meant self.new.list.width self.new.list.rules.now) }
         ensures same { self.new ≡ self.old }
     {
-        if !set.is_within(self.width) {
-            return Err(CheckRefusal::Outside);
-        }
+        refuse_outside(set, self.list.width())?;
         Ok(Verdict {
-            fit: self.is_fit(set),
+            fit: self.find(set).is_some(),
         })
     }
 
     // There is nothing to count.
     fn grant(&mut self, checks: u32) -> Result<(), GrantRefusal>
-        ensures granted { Granted (meant self.old.width self.old.rules.now) checks result (meant self.new.width self.new.rules.now) }
+        ensures granted { Granted (meant self.old.list.width self.old.list.rules.now) checks result (meant self.new.list.width self.new.list.rules.now) }
         ensures same { self.new ≡ self.old }
     {
         granted(checks)
     }
+
+    ghost lawful = { λ o. rule_lawful kind.Gaps gaps_decided o.list.rules.now o.list.width o.list.narrow };
 }
 
 // A ring of gaps that adds up to nought is fit, and one that adds up to less is not.

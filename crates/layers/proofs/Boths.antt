@@ -10,15 +10,17 @@ use Rattle.oracle.specs.declared.GrantRefusal.{GrantRefusal}
 use Rattle.oracle.proofs.Checks.{spent, answered, answer_outside, answer_spent, answer_fit, checked_as, left_as, unchanged, kept}
 use Rattle.layers.specs.Asked.{Answer, says_fit, InTurn, BothAsked, BothChecked}
 use Rattle.layers.specs.Layered.{lesser, both}
-use Rattle.layers.specs.Laws.{within_left, within_right}
+use Rattle.layers.specs.Meant.{both_meaning}
+use Rattle.layers.specs.declared.both.Both.{Both}
+use Rattle.layers.specs.Laws.{within_both}
 use Rattle.layers.proofs.Cases.{nought_lesser, taken_lesser, taken_none, grown_lesser}
 
 kept_both : (l l' r r' : Meaning) → Kept l l' → Kept r r' → Kept (both l r) (both l' r')
 kept_both l l' r r' kl kr = (
   ap (λ w. min w r'.width) kl.0 ∙ ap (min l.width) kr.0,
   λ s near.
-      ap (λ b. b && r'.fit s) (kl.1 s (within_left l.width r.width s near))
-      ∙ ap (λ b. l.fit s && b) (kr.1 s (within_right l.width r.width s near)),
+      let close = within_both l.width r.width s near in
+      ap (λ b. b && r'.fit s) (kl.1 s close.0) ∙ ap (λ b. l.fit s && b) (kr.1 s close.1),
 )
 
 unchanged_both : (l l' r r' : Meaning) → Unchanged l l' → Unchanged r r' → Unchanged (both l r) (both l' r')
@@ -30,6 +32,16 @@ unchanged_both l l' r r' ul ur = (
       ∙ ap (cond (nought l.allowance) l.label) ur.2,
 )
 
+-- a set within the width of Both is within that of each side
+near_both : (l r : Meaning) (s : ℕ) → within (both l r).width s ≡ true → (within l.width s ≡ true) × (within r.width s ≡ true)
+near_both l r s near =
+    let close = within_both l.width r.width s (ltb-true s (2 ^ min l.width r.width) near) in
+    (lt-ltb s (2 ^ l.width) close.0, lt-ltb s (2 ^ r.width) close.1)
+
+-- where the left has something left, Both has nought if the right has
+nought_right : (l r : Meaning) → nought l.allowance ≡ false → nought (both l r).allowance ≡ nought r.allowance
+nought_right l r some = nought_lesser l.allowance r.allowance ∙ ap (λ b. b || nought r.allowance) some
+
 module _ (l r l' r' : Meaning) (s : ℕ) (answer : Answer) where
   both_outside : within (min l.width r.width) s ≡ false → answer ≡ Err Outside → l' ≡ l → r' ≡ r → Checked (both l r) s answer (both l' r')
   both_outside far refused same-l same-r =
@@ -40,11 +52,10 @@ module _ (l r l' r' : Meaning) (s : ℕ) (answer : Answer) where
   -- a side that has nought refuses, and so does Both, with that label
   both_spent_right : within (both l r).width s ≡ true → nought l.allowance ≡ false → nought r.allowance ≡ true → Checked r s answer r' → l' ≡ l → Checked (both l r) s answer (both l' r')
   both_spent_right near some none right same =
-      let near-r = lt-ltb s (2 ^ r.width) (within_right l.width r.width s (ltb-true s (2 ^ min l.width r.width) near)) in
-      let told = left_as r r' s answer (spent r) right (answer_spent r s near-r none) in
+      let told = left_as r r' s answer (spent r) right (answer_spent r s (near_both l r s near).1 none) in
       let P : Meaning → Type 0 = λ n. Unchanged l n in
       let due : spent r ≡ check_answer (both l r) s =
-      sym (answer_spent (both l r) s near (nought_lesser l.allowance r.allowance ∙ ap (λ b. b || nought r.allowance) some ∙ none)
+      sym (answer_spent (both l r) s near (nought_right l r some ∙ none)
       ∙ ap (λ x. Err (Spent x)) (cond-false (nought l.allowance) l.label r.label some)) in
       checked_as (both l r) (both l' r') s answer (spent r) told.0 due (unchanged_both l l' r r' (subst P (sym same) (unchanged l)) told.1)
 
@@ -61,14 +72,13 @@ module _ (l r l' r' : Meaning) (s : ℕ) (answer : Answer) where
       → Kept l l' → Taken l.allowance l'.allowance → Kept r r' → Taken r.allowance r'.allowance → Checked (both l r) s answer (both l' r')
   both_answers near some-l some_r told kl tl kr tr =
       checked_as (both l r) (both l' r') s answer (answered (both l r) s) told
-      (sym (answer_fit (both l r) s near (nought_lesser l.allowance r.allowance ∙ ap (λ b. b || nought r.allowance) some-l ∙ some_r)))
+      (sym (answer_fit (both l r) s near (nought_right l r some-l ∙ some_r)))
       (kept_both l l' r r' kl kr, taken_lesser l.allowance l'.allowance r.allowance r'.allowance tl tr)
 
   both_asked_right : within (both l r).width s ≡ true → nought l.allowance ≡ false → nought r.allowance ≡ false → l.fit s ≡ true
       → Kept l l' → Taken l.allowance l'.allowance → Checked r s answer r' → Checked (both l r) s answer (both l' r')
   both_asked_right near some-l some_r fit kl tl right =
-      let near-r = lt-ltb s (2 ^ r.width) (within_right l.width r.width s (ltb-true s (2 ^ min l.width r.width) near)) in
-      let told = left_as r r' s answer (answered r s) right (answer_fit r s near-r some_r) in
+      let told = left_as r r' s answer (answered r s) right (answer_fit r s (near_both l r s near).1 some_r) in
       both_answers near some-l some_r (told.0 ∙ ap (λ b. Ok (verdict (b && r.fit s))) (sym fit)) kl tl told.1.0 told.1.1
 
   both_asked_left : within (both l r).width s ≡ true → nought l.allowance ≡ false → nought r.allowance ≡ false → l.fit s ≡ false
@@ -81,7 +91,7 @@ module _ (l r l' r' : Meaning) (s : ℕ) (answer : Answer) where
   -- the left was asked first
   both_left_first : within (both l r).width s ≡ true → (not (nought l.allowance) && nought r.allowance) ≡ false → InTurn l r s answer l' r' → Checked (both l r) s answer (both l' r')
   both_left_first near order turn =
-      let near-l = lt-ltb s (2 ^ l.width) (within_left l.width r.width s (ltb-true s (2 ^ min l.width r.width) near)) in
+      let near-l = (near_both l r s near).0 in
       elim (cases_Bool (nought l.allowance)) [
         | inl none ↦
             let due = answer_spent l s near-l none in
@@ -103,8 +113,8 @@ module _ (l r l' r' : Meaning) (s : ℕ) (answer : Answer) where
             ]
       ]
 
-  pub both_checked : BothChecked l r s answer l' r' → Checked (both l r) s answer (both l' r')
-  both_checked asked =
+  checked_both : BothChecked l r s answer l' r' → Checked (both l r) s answer (both l' r')
+  checked_both asked =
       elim (cases_Bool (within (both l r).width s)) [
         | inr far ↦ let h = asked.1 far in both_outside far h.0 h.1 h.2
         | inl near ↦
@@ -128,5 +138,15 @@ module _ (l r l' r' : Meaning) (k : ℕ) where
   )
   granted_after (Err e) gl gr = unchanged_both l l' r r' gl gr
 
-  pub both_granted : (answer : Result (Unit {0}) GrantRefusal) → Granted l k answer l' → Granted r k answer r' → Granted (both l r) k answer (both l' r')
-  both_granted answer gl gr = (gl.0, granted_after answer gl.1 gr.1)
+  granted_both : (answer : Result (Unit {0}) GrantRefusal) → Granted l k answer l' → Granted r k answer r' → Granted (both l r) k answer (both l' r')
+  granted_both answer gl gr = (gl.0, granted_after answer gl.1 gr.1)
+
+-- of the oracles themselves, before and after a call
+module _ {L R : Type 0} (left : L → Meaning) (right : R → Meaning) (o n : Both L R) where
+  pub both_checked : (s : ℕ) (answer : Answer) → BothChecked (left o.left) (right o.right) s answer (left n.left) (right n.right)
+      → Checked (both_meaning left right o) s answer (both_meaning left right n)
+  both_checked s answer asked = checked_both (left o.left) (right o.right) (left n.left) (right n.right) s answer asked
+
+  pub both_granted : (k : ℕ) (answer : Result (Unit {0}) GrantRefusal) → Granted (left o.left) k answer (left n.left) → Granted (right o.right) k answer (right n.right)
+      → Granted (both_meaning left right o) k answer (both_meaning left right n)
+  both_granted k answer gl gr = granted_both (left o.left) (right o.right) (left n.left) (right n.right) k answer gl gr

@@ -1,17 +1,10 @@
--- A statement that depends on a test, in each case; and what is left of two allowances. Assumes nothing.
-use Rattle.std.specs.Prelude.{◌≡◌, ℕ, zero, suc, ◌+◌, min, Bool, true, false, ◌||◌, ◌⊎◌, Some, None, Option, refl}
-use Rattle.std.proofs.Common.{inl, inr, sym, ap, ◌∙◌, arith}
-use Rattle.std.proofs.lemmas.Bool.{cases_lt, true≢false}
+-- What is left of two allowances. Assumes nothing.
+use Rattle.std.specs.Prelude.{◌≡◌, ℕ, zero, suc, ◌+◌, min, ◌||◌, ◌⊎◌, Some, None, Option, refl}
+use Rattle.std.proofs.Common.{inl, inr, ap, arith}
+use Rattle.std.proofs.lemmas.Bool.{cases_lt}
 use Rattle.oracle.specs.Asking.{nought, Taken, grown}
 use Rattle.oracle.specs.Meaning.{limit}
-use Rattle.layers.specs.Asked.{If}
 use Rattle.layers.specs.Layered.{lesser}
-
-pub yes_if : (b : Bool) {A B : Type 0} → b ≡ true → A → If b A B
-yes_if b yes-b a = (λ e. a, λ no-b. absurd (true≢false (sym yes-b ∙ no-b)))
-
-pub no_if : (b : Bool) {A B : Type 0} → b ≡ false → B → If b A B
-no_if b no-b h = (λ yes-b. absurd (true≢false (sym yes-b ∙ no-b)), λ e. h)
 
 -- the smaller allowance is nought if one of them is
 pub nought_lesser : (a b : Option ℕ) → nought (lesser a b) ≡ (nought a || nought b)

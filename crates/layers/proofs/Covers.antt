@@ -1,7 +1,9 @@
 -- Cover is an oracle: from what it keeps and what it asks below, what it answers and leaves. Assumes nothing.
 use Rattle.std.specs.Prelude.{◌≡◌, ℕ, ◌^◌, Bool, true, false, cond, not, ◌&&◌, ◌||◌, List, [], ◌∷◌, ◌++◌, length, Some, None, Ok, Err, Option, nat_lt, refl}
+use Rattle.std.specs.List.{list_any}
 use Rattle.std.proofs.Common.{inl, inr, sym, ap, subst, ◌∙◌, arith}
 use Rattle.std.proofs.lemmas.Bool.{cases_Bool, cond_both, and_from, not_from_false, ltb-true, both_ways}
+use Rattle.std.proofs.lemmas.List.Folds.{list_any-append}
 use Rattle.sets.specs.Requests.{Within, within, part}
 use Rattle.sets.proofs.Parts.{part_true}
 use Rattle.oracle.specs.Asking.{nought, verdict, check_answer, AfterCheck, Checked}
@@ -10,15 +12,21 @@ use Rattle.oracle.specs.declared.CheckRefusal.TheVariants.{Outside}
 use Rattle.oracle.proofs.Checks.{spent, answered, answer_outside, answer_spent, answer_fit, checked_as, left_as, unchanged, kept}
 use Rattle.layers.specs.Asked.{Answer, most_kept, fits_after, unfits_after, CoverAsked, deciding, CoverChecked}
 use Rattle.layers.specs.Layered.{under_one, over_one, known, or_below, cover}
+use Rattle.layers.specs.Listed.{kept_list}
+use Rattle.layers.specs.Meant.{cover_meaning}
+use Rattle.layers.specs.declared.cover.Cover.{Cover}
 use Rattle.layers.proofs.Cases.{taken_none}
 use Rattle.layers.specs.Laws.{over_none, cover_said}
-use Rattle.layers.proofs.KeptLists.{any_end}
 
 module _ (fits unfits : List ℕ) (m : Meaning) where
   -- the oracle below may change, and what is kept may grow, if the verdicts stay
   cover_kept : (fits' unfits' : List ℕ) (m' : Meaning) → Kept m m' → ((x : ℕ) → Within m.width x → (cover fits' unfits' m).fit x ≡ (cover fits unfits m).fit x)
       → Kept (cover fits unfits m) (cover fits' unfits' m')
   cover_kept fits' unfits' m' k same = (k.0, λ x close. ap (or_below (known fits' unfits' x)) (k.1 x close) ∙ same x close)
+
+-- a test of one more
+any_end : (test : ℕ → Bool) (ks : List ℕ) (s : ℕ) → list_any test (ks ++ (s ∷ [])) ≡ (list_any test ks || test s)
+any_end test ks s = list_any-append test ks (s ∷ []) ∙ ap (λ b. list_any test ks || b) (elim (test s) as (λ b. (b || false) ≡ b) [ true ↦ refl | false ↦ refl ])
 
 -- one more fit set changes no verdict if its parts are fit already, and one more unfit set none if what contains it is unfit below
 fit_known : (under new rest : Bool) → (new ≡ true → rest ≡ true) → ((under || new) || rest) ≡ (under || rest)
@@ -125,11 +133,18 @@ module _ (fits unfits : List ℕ) (m : Meaning) (s : ℕ) (answer : Answer) (fit
           | inr some ↦ cover_answered some (undecided (nought m.allowance) (under_one s fits) (over_one s unfits) some known-none) asked
         ]
 
-  pub cover_checked : Lawful m → CoverChecked fits unfits m s answer fits' unfits' m' → Checked (cover fits unfits m) s answer (cover fits' unfits' m')
-  cover_checked law asked =
+  checked_cover : Lawful m → CoverChecked fits unfits m s answer fits' unfits' m' → Checked (cover fits unfits m) s answer (cover fits' unfits' m')
+  checked_cover law asked =
       elim (cases_Bool (within m.width s)) [
         | inl near ↦ cover_asked law near (deciding fits unfits m s) refl (asked.0 near)
         | inr far ↦
             let h = asked.1 far in
             cover_alone (Err Outside) h.0 (sym (answer_outside (cover fits unfits m) s far)) (unchanged (cover fits unfits m)) h.1 h.2 h.3
       ]
+
+-- of the oracle itself, before and after a call
+module _ {O : Type 0} (below : O → Meaning) (o n : Cover O) where
+  pub cover_checked : (s : ℕ) (answer : Answer) → Lawful (below o.below)
+      → CoverChecked (kept_list o.fits) (kept_list o.unfits) (below o.below) s answer (kept_list n.fits) (kept_list n.unfits) (below n.below)
+      → Checked (cover_meaning below o) s answer (cover_meaning below n)
+  cover_checked s answer law asked = checked_cover (kept_list o.fits) (kept_list o.unfits) (below o.below) s answer (kept_list n.fits) (kept_list n.unfits) (below n.below) law asked

@@ -1,12 +1,13 @@
 -- That the layers keep the law of an oracle, from what is below; cited where each says what it means. Assumes nothing.
 use Rattle.std.specs.Prelude.{◌≡◌, ℕ, ◌≤◌, min, Bool, true, false, cond, not, ◌&&◌, ◌||◌, List, [], ◌∷◌, Some, None, Option, refl}
+use Rattle.std.specs.List.{list_any}
 use Rattle.std.proofs.Common.{inl, inr, sym, ◌∙◌, lt_of_lt_of_le, arith, pow_mono}
 use Rattle.std.proofs.lemmas.Bool.{cases_Bool, cond_both, or_cases, or_left, or_right, and_parts, and_from, not-true, not_from_false, both_ways}
 use Rattle.sets.specs.Requests.{Within, Part, part}
 use Rattle.sets.proofs.Parts.{part_trans, part_true, true_part}
 use Rattle.oracle.specs.Asking.{nought}
 use Rattle.oracle.specs.Meaning.{Meaning, limit, last_label, Counted, Lawful}
-use Rattle.layers.specs.Layered.{lesser, both, quota, any_kept, under_one, over_one, or_below, cover}
+use Rattle.layers.specs.Layered.{lesser, both, quota, under_one, over_one, or_below, cover}
 
 pub counted_lesser : (a b : Option ℕ) → Counted a → Counted b → Counted (lesser a b)
 counted_lesser None b ca cb = cb
@@ -14,11 +15,8 @@ counted_lesser (Some a) None ca cb = ca
 counted_lesser (Some a) (Some b) ca cb = omega arith
 
 -- a set within the smaller width is within both
-pub within_left : (a b s : ℕ) → Within (min a b) s → Within a s
-within_left a b s near = lt_of_lt_of_le near (pow_mono (omega arith))
-
-pub within_right : (a b s : ℕ) → Within (min a b) s → Within b s
-within_right a b s near = lt_of_lt_of_le near (pow_mono (omega arith))
+pub within_both : (a b s : ℕ) → Within (min a b) s → Within a s × Within b s
+within_both a b s near = (lt_of_lt_of_le near (pow_mono (omega arith)), lt_of_lt_of_le near (pow_mono (omega arith)))
 
 pub both_lawful : (l r : Meaning) → Lawful l → Lawful r → Lawful (both l r)
 both_lawful l r ll lr = record {
@@ -27,9 +25,10 @@ both_lawful l r ll lr = record {
   labelled = cond_both (nought l.allowance) l.label r.label (λ x. x ≤ last_label) (λ e. ll.labelled) (λ e. lr.labelled);
   downward = λ t s near part fit.
       let two = and_parts (l.fit s) (r.fit s) fit in
+      let close = within_both l.width r.width s near in
       and_from (l.fit t) (r.fit t)
-      (ll.downward t s (within_left l.width r.width s near) part two.0)
-      (lr.downward t s (within_right l.width r.width s near) part two.1);
+      (ll.downward t s close.0 part two.0)
+      (lr.downward t s close.1 part two.1);
 }
 
 pub quota_lawful : (number label : ℕ) (m : Meaning) → number ≤ limit → label ≤ last_label → Lawful m → Lawful (quota number label m)
@@ -41,12 +40,12 @@ quota_lawful number label m counted labelled law = record {
 }
 
 -- a test that holds wherever another does
-any_more : (f g : ℕ → Bool) → ((k : ℕ) → f k ≡ true → g k ≡ true) → (ks : List ℕ) → any_kept f ks ≡ true → any_kept g ks ≡ true
+any_more : (f g : ℕ → Bool) → ((k : ℕ) → f k ≡ true → g k ≡ true) → (ks : List ℕ) → list_any f ks ≡ true → list_any g ks ≡ true
 any_more f g less [] holds = holds
 any_more f g less (k ∷ ks) holds =
-    elim (or_cases (f k) (any_kept f ks) holds) [
-      | inl here ↦ or_left (g k) (any_kept g ks) (less k here)
-      | inr later ↦ or_right (g k) (any_kept g ks) (any_more f g less ks later)
+    elim (or_cases (f k) (list_any f ks) holds) [
+      | inl here ↦ or_left (g k) (list_any g ks) (less k here)
+      | inr later ↦ or_right (g k) (list_any g ks) (any_more f g less ks later)
     ]
 
 -- a part of a set that is under one is under it, and a set with a part that is over one is over it

@@ -1,5 +1,6 @@
 -- What the layers mean, from what the oracles below them mean. Assumes nothing.
-use Rattle.std.specs.Prelude.{ℕ, min, Bool, true, false, cond, ◌&&◌, ◌||◌, List, [], ◌∷◌, Some, None, Option}
+use Rattle.std.specs.Prelude.{ℕ, min, Bool, true, false, cond, ◌&&◌, List, Some, None, Option}
+use Rattle.std.specs.List.{list_any}
 use Rattle.sets.specs.Requests.{part}
 use Rattle.oracle.specs.Asking.{nought}
 use Rattle.oracle.specs.Meaning.{Meaning}
@@ -28,18 +29,13 @@ quota number label m = record {
   label = cond (nought (Some number)) label m.label;
 }
 
--- whether a test holds of one of the kept sets
-abbrev pub any_kept : (ℕ → Bool) → List ℕ → Bool
-any_kept test [] = false
-any_kept test (k ∷ ks) = test k || any_kept test ks
-
 -- whether a set is part of one of those kept
 abbrev pub under_one : ℕ → List ℕ → Bool
-under_one s ks = any_kept (λ k. part s k) ks
+under_one s ks = list_any (λ k. part s k) ks
 
 -- whether a set contains one of those kept
 abbrev pub over_one : ℕ → List ℕ → Bool
-over_one s ks = any_kept (λ k. part k s) ks
+over_one s ks = list_any (λ k. part k s) ks
 
 -- what the kept sets say of a set, if they decide
 abbrev pub known : (fits unfits : List ℕ) → ℕ → Option Bool

@@ -1,14 +1,13 @@
 // Two oracles as one: a set is fit if both sides call it fit.
-ghost use Rattle.std.specs.Prelude.{◌≡◌, not};
+ghost use Rattle.std.specs.Prelude.{◌≡◌};
 ghost use Rattle.oracle.specs.Asking.{Checked, Granted};
-ghost use Rattle.sets.specs.Requests.{within};
 ghost use Rattle.sets.specs.Sets.{bits_of};
 ghost use Rattle.layers.specs.Asked.{only_right_spent, InTurn, BothChecked};
 ghost use Rattle.layers.specs.Meant.{both_meaning};
 ghost use Rattle.layers.specs.Laws.{both_lawful};
 
-use crate::{is_nought, lesser, says_fit};
-use oracle::{CheckRefusal, GrantRefusal, Meant, Oracle, Verdict};
+use crate::lesser;
+use oracle::{CheckRefusal, GrantRefusal, Oracle, Verdict, refuse_outside};
 use sets::Set;
 
 #[derive(Drop)]
@@ -24,48 +23,28 @@ impl<L: Oracle, R: Oracle> Both<L, R> {
         Both { left, right }
     }
 
-    fn is_outside(&self, set: Set) -> bool
-        ensures { result ≡ not (within (both_meaning L.Meant.meaning R.Meant.meaning self.now).width (bits_of set)) }
-    {
-        !set.is_within(self.width())
-    }
-
     // Whether the right has nought and the left has not.
     fn only_right_is_spent(&self) -> bool
-        ensures { result ≡ only_right_spent (L.Meant.meaning self.now.left) (R.Meant.meaning self.now.right) }
+        ensures { result ≡ only_right_spent (L.meaning self.now.left) (R.meaning self.now.right) }
     {
-        !is_nought(self.left.left()) && is_nought(self.right.left())
-    }
-
-    fn grant_both(&mut self, checks: u32) -> Result<(), GrantRefusal>
-        ensures left { Granted (L.Meant.meaning self.old.left) checks result (L.Meant.meaning self.new.left) }
-        ensures right { Granted (R.Meant.meaning self.old.right) checks result (R.Meant.meaning self.new.right) }
-    {
-        match self.left.grant(checks) {
-            Ok(()) => self.right.grant(checks),
-            Err(refusal) => Err(refusal),
-        }
+        self.left.left() != Some(0) && self.right.left() == Some(0)
     }
 
     // Asks the left, and then the right if the left says fit.
     fn ask_in_turn(&mut self, set: Set) -> Result<Verdict, CheckRefusal>
-        ensures { InTurn (L.Meant.meaning self.old.left) (R.Meant.meaning self.old.right) (bits_of set) result (L.Meant.meaning self.new.left) (R.Meant.meaning self.new.right) }
+        ensures { InTurn (L.meaning self.old.left) (R.meaning self.old.right) (bits_of set) result (L.meaning self.new.left) (R.meaning self.new.right) }
     {
-        let first = self.left.check(set);
-        if says_fit(first) {
-            return self.right.check(set);
+        let first = self.left.check(set)?;
+        if !first.fit {
+            return Ok(first);
         }
-        first
+        self.right.check(set)
     }
 }
 
-impl<L: Oracle, R: Oracle> Meant for Both<L, R> {
-    ghost meaning = { both_meaning L.Meant.meaning R.Meant.meaning };
-
-    ghost lawful = { λ o. both_lawful (L.Meant.meaning o.left) (R.Meant.meaning o.right) (L.Meant.lawful o.left) (R.Meant.lawful o.right) };
-}
-
 impl<L: Oracle, R: Oracle> Oracle for Both<L, R> {
+    ghost meaning = { both_meaning L.meaning R.meaning };
+
     fn width(&self) -> u32 {
         self.left.width().min(self.right.width())
     }
@@ -76,12 +55,10 @@ impl<L: Oracle, R: Oracle> Oracle for Both<L, R> {
 
     // The left is asked first, and the right only if the left says fit. Where one side has nought, only that side is asked; the left, if both have.
     fn check(&mut self, set: Set) -> Result<Verdict, CheckRefusal>
-        ensures checked { Checked (both_meaning L.Meant.meaning R.Meant.meaning self.old) (bits_of set) result (both_meaning L.Meant.meaning R.Meant.meaning self.new) }
-        ensures asked { BothChecked (L.Meant.meaning self.old.left) (R.Meant.meaning self.old.right) (bits_of set) result (L.Meant.meaning self.new.left) (R.Meant.meaning self.new.right) }
+        ensures checked { Checked (both_meaning L.meaning R.meaning self.old) (bits_of set) result (both_meaning L.meaning R.meaning self.new) }
+        ensures asked { BothChecked (L.meaning self.old.left) (R.meaning self.old.right) (bits_of set) result (L.meaning self.new.left) (R.meaning self.new.right) }
     {
-        if self.is_outside(set) {
-            return Err(CheckRefusal::Outside);
-        }
+        refuse_outside(set, self.width())?;
         if self.only_right_is_spent() {
             return self.right.check(set);
         }
@@ -89,9 +66,12 @@ impl<L: Oracle, R: Oracle> Oracle for Both<L, R> {
     }
 
     fn grant(&mut self, checks: u32) -> Result<(), GrantRefusal>
-        ensures granted { Granted (both_meaning L.Meant.meaning R.Meant.meaning self.old) checks result (both_meaning L.Meant.meaning R.Meant.meaning self.new) }
-        ensures both { Granted (L.Meant.meaning self.old.left) checks result (L.Meant.meaning self.new.left) × Granted (R.Meant.meaning self.old.right) checks result (R.Meant.meaning self.new.right) }
+        ensures granted { Granted (both_meaning L.meaning R.meaning self.old) checks result (both_meaning L.meaning R.meaning self.new) }
+        ensures both { Granted (L.meaning self.old.left) checks result (L.meaning self.new.left) × Granted (R.meaning self.old.right) checks result (R.meaning self.new.right) }
     {
-        self.grant_both(checks)
+        self.left.grant(checks)?;
+        self.right.grant(checks)
     }
+
+    ghost lawful = { λ o. both_lawful (L.meaning o.left) (R.meaning o.right) (L.lawful o.left) (R.lawful o.right) };
 }

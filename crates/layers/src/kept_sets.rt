@@ -1,16 +1,49 @@
 // Up to 64 sets, in the order in which they were kept.
-ghost use Rattle.std.specs.Prelude.{◌≤◌};
-ghost use Rattle.layers.specs.Asked.{most_kept};
+ghost use Rattle.std.specs.Prelude.{◌≡◌, []};
+ghost use Rattle.sets.specs.Sets.{bits_of};
+ghost use Rattle.layers.specs.Asked.{kept_one};
+ghost use Rattle.layers.specs.Layered.{under_one, over_one};
+ghost use Rattle.layers.specs.Listed.{kept_list};
 
+use arrayvec::ArrayVec;
 use sets::Set;
-
-mod keeping;
 
 const MOST: usize = 64;
 
 #[derive(Drop)]
 pub struct KeptSets {
-    sets: [Set; MOST],
-    count: usize,
-    ghost few: { count ≤ most_kept },
+    sets: ArrayVec<Set, MOST>,
+}
+
+impl KeptSets {
+    pub fn new() -> KeptSets
+        ensures { kept_list result ≡ [] }
+    {
+        KeptSets {
+            sets: ArrayVec::new(),
+        }
+    }
+
+    // Whether the set is part of a kept one.
+    pub fn has_over(&self, set: Set) -> bool
+        ensures { result ≡ under_one (bits_of set) (kept_list self.now) }
+    {
+        self.sets.iter().any(|kept| set.is_part_of(*kept))
+    }
+
+    // Whether the set contains a kept one.
+    pub fn has_under(&self, set: Set) -> bool
+        ensures { result ≡ over_one (bits_of set) (kept_list self.now) }
+    {
+        self.sets.iter().any(|kept| kept.is_part_of(set))
+    }
+
+    // Keeps the set, unless there is no room.
+    pub fn keep(&mut self, set: Set)
+        ensures { kept_list self.new ≡ kept_one (bits_of set) (kept_list self.old) }
+    {
+        if !self.sets.is_full() {
+            self.sets.push(set);
+        }
+    }
 }

@@ -1,4 +1,3 @@
 pub mod Examples
-pub mod Found
-pub mod Ripe
+pub mod Propagating
 pub mod Verdict

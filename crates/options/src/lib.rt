@@ -3,64 +3,56 @@
 
 mod propagation;
 
-ghost use Rattle.std.specs.Prelude.{◌≡◌, ◌≤◌, min};
+ghost use Rattle.std.specs.Prelude.{◌≡◌, min, is_some};
 ghost use Rattle.sets.specs.Requests.{widest};
 ghost use Rattle.sets.specs.Sets.{bits_of};
 ghost use Rattle.oracle.specs.Asking.{Checked, Granted};
 ghost use Rattle.options.specs.Examples.{AloneFits, TogetherUnfit};
-ghost use Rattle.options.specs.Found.{Found};
-ghost use Rattle.options.specs.Verdict.{fit as fit_options, meant};
+ghost use Rattle.options.specs.Verdict.{fit as fit_options, meant, Found};
 ghost use Rattle.rules.proofs.Fewer.{rule_lawful};
 ghost use Rattle.rules.proofs.OptionsDecided.{options_decided};
 ghost use Rattle.rules.specs.declared.Kind.TheVariants as kind;
 
-use oracle::{CheckRefusal, GrantRefusal, Meant, Oracle, Verdict, WIDEST, granted};
-use propagation::least;
-use rules::{OptionSet, Rule};
+use oracle::{CheckRefusal, GrantRefusal, Oracle, Verdict, granted, refuse_outside};
+use propagation::Propagation;
+use rules::{OptionSet, Rule, RuleList};
 use sets::Set;
 
 // The rules on options of a list; rules of other kinds are passed over.
 #[derive(Drop)]
 pub struct Options<'a> {
-    rules: &'a [Rule],
-    width: u32,
-    ghost narrow: { width ≤ widest },
+    list: RuleList<'a>,
 }
 
 impl<'a> Options<'a> {
     // The width is cut at 32.
     pub fn new(rules: &'a [Rule], width: u32) -> Options<'a>
-        ensures { (result.rules.now ≡ rules.now) × (result.width ≡ min width widest) }
+        ensures { (result.list.rules.now ≡ rules.now) × (result.list.width ≡ min width widest) }
     {
         Options {
-            rules,
-            width: width.min(WIDEST),
+            list: RuleList::new(rules, width),
         }
     }
 
     // Options that serve for a set of requests, or none where no options do.
     fn find(&self, set: Set) -> Option<OptionSet>
-        ensures { Found self.now.rules.now (bits_of set) result }
+        ensures found { Found self.now.list.rules.now (bits_of set) result }
+        ensures verdict { is_some result ≡ fit_options self.now.list.rules.now (bits_of set) }
     {
-        least(self.rules, set)
-    }
-
-    fn is_fit(&self, set: Set) -> bool
-        ensures { result ≡ fit_options self.now.rules.now (bits_of set) }
-    {
-        self.find(set).is_some()
+        let propagation = Propagation {
+            rules: self.list.rules(),
+            set,
+        };
+        propagation.least()
     }
 }
 
-impl<'a> Meant for Options<'a> {
-    ghost meaning = { λ o. meant o.width o.rules.now };
-
-    ghost lawful = { λ o. rule_lawful kind.Options options_decided o.rules.now o.width o.narrow };
-}
-
+// Like the blocks of `gaps` and `faces`, since the project has an oracle of its own for each kind of rule; what they share is in `rules` and `oracle`.
 impl<'a> Oracle for Options<'a> {
+    ghost meaning = { λ o. meant o.list.width o.list.rules.now };
+
     fn width(&self) -> u32 {
-        self.width
+        self.list.width()
     }
 
     fn left(&self) -> Option<u32> {
@@ -69,23 +61,23 @@ impl<'a> Oracle for Options<'a> {
 
     // A check changes nothing.
     fn check(&mut self, set: Set) -> Result<Verdict, CheckRefusal>
-        ensures checked { Checked (meant self.old.width self.old.rules.now) (bits_of set) result (meant self.new.width self.new.rules.now) }
+        ensures checked { Checked (meant self.old.list.width self.old.list.rules.now) (bits_of set) result (meant self.new.list.width self.new.list.rules.now) }
         ensures same { self.new ≡ self.old }
     {
-        if !set.is_within(self.width) {
-            return Err(CheckRefusal::Outside);
-        }
+        refuse_outside(set, self.list.width())?;
         Ok(Verdict {
-            fit: self.is_fit(set),
+            fit: self.find(set).is_some(),
         })
     }
 
     fn grant(&mut self, checks: u32) -> Result<(), GrantRefusal>
-        ensures granted { Granted (meant self.old.width self.old.rules.now) checks result (meant self.new.width self.new.rules.now) }
+        ensures granted { Granted (meant self.old.list.width self.old.list.rules.now) checks result (meant self.new.list.width self.new.list.rules.now) }
         ensures same { self.new ≡ self.old }
     {
         granted(checks)
     }
+
+    ghost lawful = { λ o. rule_lawful kind.Options options_decided o.list.rules.now o.list.width o.list.narrow };
 }
 
 // The definitions find the verdicts on a small list of rules.

@@ -21,6 +21,10 @@ nought (Some (suc n)) = false
 abbrev pub if_left : Meaning → ℕ → Result Verdict CheckRefusal
 if_left m s = cond (nought m.allowance) (Err (Spent m.label)) (Ok (verdict (m.fit s)))
 
+-- a set outside the width is refused, whatever else holds
+abbrev pub width_answer : (width s : ℕ) → Result (Unit {0}) CheckRefusal
+width_answer width s = cond (within width s) (Ok tt) (Err Outside)
+
 -- what CHECK of a set answers
 abbrev pub check_answer : Meaning → ℕ → Result Verdict CheckRefusal
 check_answer m s = cond (within m.width s) (if_left m s) (Err Outside)

@@ -3,7 +3,7 @@
 
 ghost use Rattle.std.specs.Prelude.{◌≡◌};
 ghost use Rattle.sets.specs.Sets.{bits_of};
-ghost use Rattle.oracle.specs.Asking.{grant_answer, Checked, Granted};
+ghost use Rattle.oracle.specs.Asking.{width_answer, grant_answer, Checked, Granted};
 ghost use Rattle.oracle.specs.Meaning.{Meaning, Lawful};
 ghost use Rattle.oracle.specs.Refused.{check_number, check_value, grant_number};
 
@@ -28,10 +28,11 @@ pub enum CheckRefusal {
 #[derive(Clone, Copy, PartialEq, Eq, Debug)]
 pub enum GrantRefusal {
     // More than 1,000,000 checks at once.
-    Over,
+    Over = 11,
 }
 
 impl CheckRefusal {
+    // A case that holds a value can have no discriminant, so the numbers stand here.
     pub fn number(self) -> u32
         ensures { result ≡ check_number self }
     {
@@ -56,9 +57,7 @@ impl GrantRefusal {
     pub fn number(self) -> u32
         ensures { result ≡ grant_number self }
     {
-        match self {
-            GrantRefusal::Over => 11,
-        }
+        self as u32
     }
 }
 
@@ -67,6 +66,16 @@ pub const LIMIT: u32 = 1_000_000;
 
 // The most requests.
 pub const WIDEST: u32 = 32;
+
+// Every oracle refuses a set with a request above its width, before it looks at anything else.
+pub fn refuse_outside(set: Set, width: u32) -> Result<(), CheckRefusal>
+    ensures { result ≡ width_answer width (bits_of set) }
+{
+    if !set.is_within(width) {
+        return Err(CheckRefusal::Outside);
+    }
+    Ok(())
+}
 
 // What every oracle answers to a grant, whatever it counts.
 pub fn granted(checks: u32) -> Result<(), GrantRefusal>
@@ -78,27 +87,26 @@ pub fn granted(checks: u32) -> Result<(), GrantRefusal>
     Ok(())
 }
 
-// What an oracle means, and the law of it; the calls stand in a trait above it.
-pub trait Meant {
+// What an oracle means, its calls, and the law of its meaning.
+pub trait Oracle {
     ghost meaning: { Self → Meaning };
 
-    ghost lawful: { (o : Self) → Lawful (meaning o) };
-}
-
-pub trait Oracle: Meant {
     // How many requests there are.
     fn width(&self) -> u32
-        ensures { result ≡ (Self.Meant.meaning self.now).width };
+        ensures { result ≡ (meaning self.now).width };
 
     // How many checks are left; none where they are endless.
     fn left(&self) -> Option<u32>
-        ensures { result ≡ (Self.Meant.meaning self.now).allowance };
+        ensures { result ≡ (meaning self.now).allowance };
 
     // Whether the requests of a set can be met together.
     fn check(&mut self, set: Set) -> Result<Verdict, CheckRefusal>
-        ensures { Checked (Self.Meant.meaning self.old) (bits_of set) result (Self.Meant.meaning self.new) };
+        ensures { Checked (meaning self.old) (bits_of set) result (meaning self.new) };
 
     // So many checks more.
     fn grant(&mut self, checks: u32) -> Result<(), GrantRefusal>
-        ensures { Granted (Self.Meant.meaning self.old) checks result (Self.Meant.meaning self.new) };
+        ensures { Granted (meaning self.old) checks result (meaning self.new) };
+
+    // Each impl proves it of what it means.
+    ghost lawful: { (o : Self) → Lawful (meaning o) };
 }

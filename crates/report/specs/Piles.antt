@@ -21,13 +21,13 @@ Pile = Quota (Cover (Both Options (Both Gaps Faces)))
 
 -- what the oracle over the rules of each letter means
 abbrev pub options_meaning : Options → Meaning
-options_meaning o = options.meant o.width o.rules.now
+options_meaning o = options.meant o.list.width o.list.rules.now
 
 abbrev pub gaps_meaning : Gaps → Meaning
-gaps_meaning o = gaps.meant o.width o.rules.now
+gaps_meaning o = gaps.meant o.list.width o.list.rules.now
 
 abbrev pub faces_meaning : Faces → Meaning
-faces_meaning o = faces.meant o.width o.rules.now
+faces_meaning o = faces.meant o.list.width o.list.rules.now
 
 abbrev pub pile_meaning : Pile → Meaning
 pile_meaning = quota_meaning (cover_meaning (both_meaning options_meaning (both_meaning gaps_meaning faces_meaning)))

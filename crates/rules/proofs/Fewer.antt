@@ -1,14 +1,15 @@
 -- A part of a set has fewer rules in force: the same choice serves, so every part of a fit set is fit. Assumes nothing.
-use Rattle.std.proofs.Common.{◌≡◌, ℕ, ◌-◌, ◌≤◌, true, false, ◌||◌, eqb, ltb, leb, List, [], ◌∷◌, Some, None, Option, sym, refl, subst, inl, inr, lit≤}
+use Rattle.std.proofs.Common.{◌≡◌, ℕ, ◌-◌, ◌≤◌, true, false, ◌||◌, eqb, ltb, leb, List, [], ◌∷◌, is_some, Some, None, Option, sym, refl, subst, inl, inr, lit≤}
+use Rattle.std.specs.Option.{option_map}
 use mathlib.Core.Logic.{ite}
 use Rattle.std.proofs.lemmas.Bool.{false≢true, cases_Bool, cond-true, cond-false, and_parts, and_from, or_cases, or_left, or_right}
 use Rattle.sets.specs.Members.{has}
 use Rattle.sets.specs.Requests.{widest, names, Part}
 use Rattle.sets.proofs.Parts.{part_has}
 use Rattle.oracle.specs.Meaning.{Downward, Lawful}
-use Rattle.rules.specs.Choices.{Every, MeetsKind, FitBy}
+use Rattle.rules.specs.Choices.{Choice, Every, MeetsKind}
 use Rattle.rules.specs.Force.{counts_for, if_valid, in_force, and_then, said}
-use Rattle.rules.specs.RuleMeaning.{rule_meaning}
+use Rattle.rules.specs.Found.{Decision, fit_by, meant_by, FoundBy}
 use Rattle.rules.specs.declared.Body.{Body}
 use Rattle.rules.specs.declared.Kind.{Kind}
 use Rattle.rules.specs.declared.Rule.{Rule}
@@ -67,11 +68,18 @@ no_false (yes a) x = absurd (x a)
 no_false (no n) x = refl
 
 -- the law of the verdict, for every kind of rule, however it is decided
-pub rules_downward : (k : Kind) (decide : (rules : List Rule) (s : ℕ) → Dec (FitBy k rules s)) (rules : List Rule) (width : ℕ) → Downward width (λ s. ite (decide rules s) true false)
+rules_downward : (k : Kind) (decide : Decision k) (rules : List Rule) (width : ℕ) → Downward width (fit_by k decide rules)
 rules_downward k decide rules width t s inside within fit =
     let found = true_yes (decide rules s) fit in
     yes_true (decide rules t) (found.0, every_fewer (MeetsKind k found.0) t s rules within found.1)
 
-pub rule_lawful : (k : Kind) (decide : (rules : List Rule) (s : ℕ) → Dec (FitBy k rules s)) (rules : List Rule) (width : ℕ) → width ≤ widest → Lawful (rule_meaning width (λ s. ite (decide rules s) true false))
+pub rule_lawful : (k : Kind) (decide : Decision k) (rules : List Rule) (width : ℕ) → width ≤ widest → Lawful (meant_by k decide width rules)
 rule_lawful k decide rules width narrow =
     record { narrow = narrow; counted = tt; labelled = lit≤ tt; downward = rules_downward k decide rules width }
+
+-- whether a search finds something is the verdict
+pub found_fit :
+    {T : Type 0} (k : Kind) (decide : Decision k) (chosen : T → Choice) (rules : List Rule) (s : ℕ) (o : Option T)
+    → FoundBy k rules s (option_map chosen o) → is_some o ≡ fit_by k decide rules s
+found_fit k decide chosen rules s None away = sym (no_false (decide rules s) away)
+found_fit k decide chosen rules s (Some x) serves = sym (yes_true (decide rules s) (chosen x, serves))

@@ -1,12 +1,12 @@
 -- What a round does to the places of the marks. Assumes nothing.
-use Rattle.std.proofs.Common.{◌≡◌, ℕ, zero, suc, ◌+◌, ◌<◌, true, false, cond, List, [], ◌∷◌, length, set, replicate, ℤ, pos, ◌-ℤ◌, ◌≤ℤ◌, refl, ◌∙◌, inl, inr, arith, length-set}
+use Rattle.std.proofs.Common.{◌≡◌, ℕ, zero, suc, ◌+◌, ◌<◌, true, false, cond, List, [], ◌∷◌, length, set, replicate, ℤ, pos, ◌-ℤ◌, ◌≤ℤ◌, sym, refl, ap, ◌∙◌, inl, inr, arith, length-set}
 use lib.Signed.{lt_z, ≤ℤ_refl}
 use Rattle.std.proofs.lemmas.List.{get_or-set_same, get_or-set_other}
 use Rattle.std.proofs.lemmas.Int.{ints}
-use Rattle.std.proofs.lemmas.Bool.{cond_both, cases_eq}
+use Rattle.std.proofs.lemmas.Bool.{cond_both, cond-false, cases_eq, or_parts, or_from}
 use Rattle.rules.specs.Choices.{Every}
 use Rattle.rules.specs.Limits.{widest_gap}
-use Rattle.rules.specs.Rounds.{marks, place, Between, lifted, raised, raised_all}
+use Rattle.rules.specs.Rounds.{marks, place, Between, lifts, moves, lifted, raised, raised_all}
 use Rattle.rules.specs.declared.Body.{Body}
 use Rattle.rules.specs.declared.Body.TheVariants.{Options, Gap, Faces}
 use Rattle.rules.proofs.Bodies.{fair, OfGap, gaps_all}
@@ -136,3 +136,25 @@ round_between bs ps n v f k i =
       omega (arith, ints, k i, round_up bs ps ps v f i),
       round_under bs ps ps (λ _. n + widest_gap) v f asked (λ j. omega (arith, ints, k j)) i,
     )
+
+-- a round that has no mark to move leaves all where they lie
+raised_still : (b : Body) (ps : List ℤ) → lifts b ps ps ≡ false → raised b ps ps ≡ ps
+raised_still (Options head s) ps h = refl
+raised_still (Gap a b w) ps h = cond-false _ _ _ h
+raised_still (Faces odd s) ps h = refl
+
+pub round_still : (bs : List Body) (ps : List ℤ) → moves bs ps ≡ false → raised_all bs ps ps ≡ ps
+round_still [] ps r = refl
+round_still (b ∷ bs) ps r =
+    let p = or_parts (lifts b ps ps) (moves bs ps) r in
+    ap (raised_all bs ps) (raised_still b ps p.0) ∙ round_still bs ps p.1
+
+-- and one that leaves them there has no mark to move
+reached_rests : (bs : List Body) (ps : List ℤ) → Every (OfGap (Reached ps ps)) bs → moves bs ps ≡ false
+reached_rests [] ps r = refl
+reached_rests (Options head s ∷ bs) ps r = reached_rests bs ps r.1
+reached_rests (Gap a b w ∷ bs) ps r = or_from _ _ (sym (omega (arith, ints, r.0))) (reached_rests bs ps r.1)
+reached_rests (Faces odd s ∷ bs) ps r = reached_rests bs ps r.1
+
+pub round_rests : (bs : List Body) (ps : List ℤ) → Every Valid bs → Full ps → raised_all bs ps ps ≡ ps → moves bs ps ≡ false
+round_rests bs ps v f e = reached_rests bs ps (rw e at (round_reached bs ps ps v f))

@@ -6,6 +6,12 @@ use Rattle.rules.specs.declared.Kind.{Kind}
 use Rattle.rules.specs.declared.Kind.TheVariants.{Options, Gaps, Faces}
 use Rattle.rules.specs.declared.Rule.{Rule}
 
+-- the kind of a body
+abbrev pub kind_of : Body → Kind
+kind_of (body.Options head s) = Options
+kind_of (body.Gap a b w) = Gaps
+kind_of (body.Faces odd s) = Faces
+
 -- whether a body is that of a kind
 abbrev pub says_of : Kind → Body → Bool
 says_of Options (body.Options head s) = true

@@ -1,13 +1,15 @@
 // The rules of a ticket, as the reader leaves them.
 #![tactic(auto)]
 
-ghost use Rattle.std.specs.Prelude.{◌≡◌};
+ghost use Rattle.std.specs.Prelude.{◌≡◌, ◌≤◌, min};
 ghost use Rattle.rules.specs.Blank.{blank};
+ghost use Rattle.rules.specs.Made.{options_rule, gap_rule, faces_rule};
 ghost use Rattle.rules.specs.Force.{head_valid, body_valid, in_force};
 ghost use Rattle.sets.specs.Masks.{number_of};
 ghost use Rattle.sets.specs.Members.{size as count_of_members};
+ghost use Rattle.sets.specs.Requests.{widest};
 ghost use Rattle.sets.specs.Sets.{bits_of};
-ghost use Rattle.rules.specs.Kinds.{of_kind};
+ghost use Rattle.rules.specs.Kinds.{kind_of, of_kind};
 
 use oracle::WIDEST;
 use sets::{Mask, Set};
@@ -31,7 +33,7 @@ pub struct OptionSet {
     pub members: Mask,
 }
 
-// Faces, 0 to 31, each of which a choice puts to the front or the back.
+// Faces, 0 to 31, each of which a choice puts to the front or the back. A type apart from `OptionSet`, so that neither is taken for the other.
 #[derive(Clone, Copy, PartialEq, Eq, Debug)]
 pub struct FaceSet {
     pub members: Mask,
@@ -74,13 +76,20 @@ fn size(members: Mask) -> u32
 fn head_is_valid(head: Option<u32>) -> bool
     ensures { result ≡ head_valid head }
 {
-    match head {
-        None => true,
-        Some(option) => option <= LAST_OPTION,
-    }
+    head.is_none_or(|option| option <= LAST_OPTION)
 }
 
 impl Body {
+    fn kind(self) -> Kind
+        ensures { result ≡ kind_of self }
+    {
+        match self {
+            Body::Options { .. } => Kind::Options,
+            Body::Gap { .. } => Kind::Gaps,
+            Body::Faces { .. } => Kind::Faces,
+        }
+    }
+
     // Whether some rule line can say this.
     fn is_valid(self) -> bool
         ensures { result ≡ body_valid self }
@@ -117,16 +126,43 @@ impl Rule {
         }
     }
 
+    // If all of the options are on, the head is on; without a head, not all of them may be on.
+    pub fn options(owner: u32, head: Option<u32>, members: Mask) -> Rule
+        ensures { result ≡ options_rule owner head members }
+    {
+        let options = OptionSet { members };
+        Rule {
+            owner,
+            body: Some(Body::Options { head, options }),
+        }
+    }
+
+    // Mark a minus mark b is at most w.
+    pub fn gap(owner: u32, a: u32, b: u32, w: i32) -> Rule
+        ensures { result ≡ gap_rule owner a b w }
+    {
+        Rule {
+            owner,
+            body: Some(Body::Gap { a, b, w }),
+        }
+    }
+
+    // The faces that lie at the back are odd in number, or even.
+    pub fn faces(owner: u32, odd: bool, members: Mask) -> Rule
+        ensures { result ≡ faces_rule owner odd members }
+    {
+        let faces = FaceSet { members };
+        Rule {
+            owner,
+            body: Some(Body::Faces { odd, faces }),
+        }
+    }
+
     // Whether this is a rule of that kind; a blank one is of none.
     pub fn is_of(&self, kind: Kind) -> bool
         ensures { result ≡ of_kind kind self.now }
     {
-        match (self.body, kind) {
-            (Some(Body::Options { .. }), Kind::Options) => true,
-            (Some(Body::Gap { .. }), Kind::Gaps) => true,
-            (Some(Body::Faces { .. }), Kind::Faces) => true,
-            _ => false,
-        }
+        self.body.is_some_and(|body| body.kind() == kind)
     }
 
     // What this rule says for a set of requests: the house's rules say it for every set, a request's where it is in the set.
@@ -137,9 +173,38 @@ impl Rule {
         if self.owner > WIDEST || self.owner != 0 && !set.contains(self.owner) {
             return None;
         }
-        match self.body {
-            Some(body) if body.is_valid() => Some(body),
-            _ => None,
+        self.body.filter(|body| body.is_valid())
+    }
+}
+
+// A list of rules that is lent to an oracle, and how many requests there are.
+#[derive(Drop)]
+pub struct RuleList<'a> {
+    rules: &'a [Rule],
+    width: u32,
+    ghost narrow: { width ≤ widest },
+}
+
+impl<'a> RuleList<'a> {
+    // The width is cut at 32.
+    pub fn new(rules: &'a [Rule], width: u32) -> RuleList<'a>
+        ensures { (result.rules.now ≡ rules.now) × (result.width ≡ min width widest) }
+    {
+        RuleList {
+            rules,
+            width: width.min(WIDEST),
         }
+    }
+
+    pub fn rules(&self) -> &'a [Rule]
+        ensures { result.now ≡ self.now.rules.now }
+    {
+        self.rules
+    }
+
+    pub fn width(&self) -> u32
+        ensures { result ≡ self.now.width }
+    {
+        self.width
     }
 }

@@ -1,9 +1,9 @@
 -- A `Mask` as the number that it holds. Assumes nothing.
 use Rattle.std.specs.Prelude.{ℕ}
-use Rattle.sets.specs.declared.Mask.{Mask}
+use Rattle.sets.specs.declared.Members.{Members}
 
-abbrev pub number_of : Mask → ℕ
+abbrev pub number_of : Members 0 → ℕ
 number_of m = m.bits
 
-abbrev pub mask : ℕ → Mask
+abbrev pub mask : ℕ → Members 0
 mask n = record { bits = n }

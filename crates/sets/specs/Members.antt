@@ -1,5 +1,5 @@
 -- A set of small numbers as one number: i is a member of n if n has the bit worth 2 ^ i. Assumes nothing.
-use Rattle.std.specs.Prelude.{ℕ, zero, suc, ◌+◌, ◌/◌, ◌%◌, ◌^◌, Bool, cond, List, [], ◌∷◌, ◌==◌, bit_or, nat_lt}
+use Rattle.std.specs.Prelude.{ℕ, zero, suc, ◌+◌, ◌-◌, ◌/◌, ◌%◌, ◌^◌, Bool, cond, ◌&&◌, List, [], ◌∷◌, ◌==◌, bit_or, nat_le, nat_lt}
 
 -- a set holds numbers below this one
 abbrev pub places : ℕ
@@ -14,6 +14,13 @@ has n i = n / 2 ^ i % 2 == 1
 -- the set with i added; a number with no place is not taken in
 abbrev pub added : ℕ → ℕ → ℕ
 added n i = cond (nat_lt i places) (bit_or n (2 ^ i)) n
+
+-- the same of a set of numbers from the first on, in which i has the place i - first; no number below the first is a member, or taken in
+abbrev pub has_from : (first n i : ℕ) → Bool
+has_from first n i = nat_le first i && has n (i - first)
+
+abbrev pub added_from : (first n i : ℕ) → ℕ
+added_from first n i = cond (nat_le first i) (added n (i - first)) n
 
 -- the set n with each number of the list added
 abbrev pub added_all : ℕ → List ℕ → ℕ

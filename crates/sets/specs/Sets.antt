@@ -1,9 +1,9 @@
 -- A `Set` as the number that it holds. Assumes nothing.
 use Rattle.std.specs.Prelude.{ℕ}
-use Rattle.sets.specs.declared.set.Set.{Set}
+use Rattle.sets.specs.declared.Members.{Members}
 
-abbrev pub bits_of : Set → ℕ
+abbrev pub bits_of : Members 1 → ℕ
 bits_of s = s.bits
 
-abbrev pub set_of : ℕ → Set
+abbrev pub set_of : ℕ → Members 1
 set_of n = record { bits = n }

@@ -1,54 +1,57 @@
-// Sets of numbers from 0 to 31, each held as one number: i is in the set if the bit worth 2^i is set.
-// Options and faces are held so as a `Mask`. Requests are held as a `Set`: request r is the bit worth 2^(r-1).
+// Sets of small numbers, each held as one number: a set of numbers from FIRST on has i if the bit worth 2^(i - FIRST) is set, and there are 32 bits.
 #![tactic(auto)]
 
-mod set;
+ghost use Rattle.std.specs.Prelude.{◌≡◌, count_ones, min};
+ghost use Rattle.sets.specs.Members.{has_from, added_from, none};
+ghost use Rattle.sets.specs.Requests.{widest, within, part, everyone};
+ghost use Rattle.sets.specs.SetLaws.{SetLaws};
 
-ghost use Rattle.std.specs.Prelude.{◌≡◌, count_ones};
-ghost use Rattle.sets.specs.Members.{has, added, none};
-ghost use Rattle.sets.specs.Requests.{part};
-
-pub use set::{Set, set_laws_hold};
-
-#[derive(Clone, Copy, PartialEq, Eq, Debug)]
-pub struct Mask {
+#[derive(Clone, Copy, PartialEq, Eq, Default, Debug)]
+pub struct Members<const FIRST: u32> {
     bits: u32,
 }
 
-impl Mask {
-    pub fn new(bits: u32) -> Mask
+// A set of options or of faces, 0 to 31.
+pub type Mask = Members<0>;
+
+// A set of requests, 1 to 32: request r is the bit worth 2^(r-1).
+pub type Set = Members<1>;
+
+impl<const FIRST: u32> Members<FIRST> {
+    // Not a `From`: a number turns into a set only where the code says which.
+    pub fn new(bits: u32) -> Members<FIRST>
         ensures { result.bits ≡ bits }
     {
-        Mask { bits }
+        Members { bits }
     }
 
     pub fn bits(self) -> u32
-        ensures { result ≡ self.bits }
+        ensures { result ≡ self.entry.bits }
     {
-        let Mask { bits } = self;
+        let Members { bits } = self;
         bits
     }
 
-    pub fn empty() -> Mask
+    pub fn empty() -> Members<FIRST>
         ensures { result.bits ≡ none }
     {
-        Mask { bits: 0 }
+        Members { bits: 0 }
     }
 
-    // Whether `i` is a member; no number above 31 is.
+    // Whether `i` is a member; a number below the first or past the last is none.
     pub fn contains(self, i: u32) -> bool
-        ensures { result ≡ has self.bits i }
+        ensures { result ≡ has_from FIRST self.entry.bits i }
     {
-        i < 32 && (self.bits >> i) % 2 == 1
+        FIRST <= i && i - FIRST < 32 && (self.bits >> (i - FIRST)) % 2 == 1
     }
 
-    // The set with `i` added; a number above 31 is not taken in.
-    pub fn with(self, i: u32) -> Mask
-        ensures { result.bits ≡ added self.bits i }
+    // The set with `i` added; a number below the first or past the last is not taken in.
+    pub fn with(self, i: u32) -> Members<FIRST>
+        ensures { result.bits ≡ added_from FIRST self.entry.bits i }
     {
-        if i < 32 {
-            Mask {
-                bits: self.bits | (1 << i),
+        if FIRST <= i && i - FIRST < 32 {
+            Members {
+                bits: self.bits | (1 << (i - FIRST)),
             }
         } else {
             self
@@ -57,15 +60,42 @@ impl Mask {
 
     // How many members there are.
     pub fn len(self) -> u32
-        ensures { result ≡ count_ones self.bits }
+        ensures { result ≡ count_ones self.entry.bits }
     {
         self.bits.count_ones()
     }
 
     // Whether all members are in the other set too.
-    pub fn is_part_of(self, other: Mask) -> bool
-        ensures { result ≡ part self.bits other.bits }
+    pub fn is_part_of(self, other: Members<FIRST>) -> bool
+        ensures { result ≡ part self.entry.bits other.entry.bits }
     {
         self.bits & other.bits == self.bits
     }
 }
+
+impl Members<1> {
+    // All requests up to the width, which is cut at 32.
+    pub fn all(width: u32) -> Set
+        ensures { result.bits ≡ everyone (min width widest) }
+    {
+        if width < 32 {
+            Members {
+                bits: (1 << width) - 1,
+            }
+        } else {
+            Members { bits: u32::MAX }
+        }
+    }
+
+    // Whether no request is above the width.
+    pub fn is_within(self, width: u32) -> bool
+        ensures { result ≡ within width self.bits }
+    {
+        width >= 32 || self.bits < 1 << width
+    }
+}
+
+// The laws of sets that all else rests on, as a theorem: see specs/SetLaws.antt.
+pub fn set_laws_hold()
+    ensures { SetLaws }
+{}

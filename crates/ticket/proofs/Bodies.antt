@@ -10,7 +10,8 @@ use Rattle.rules.specs.declared.Kind.{Kind}
 use Rattle.rules.specs.declared.Kind.TheVariants.{Options, Gaps, Faces}
 use Rattle.sets.specs.Masks.{number_of}
 use Rattle.sets.specs.Members.{none, added_all, members}
-use Rattle.fields.specs.Limits.{most_requests, last_mark, widest_gap, most_members}
+use Rattle.rules.specs.Limits.{last_mark, widest_gap, most_members}
+use Rattle.fields.specs.Limits.{most_requests}
 use Rattle.fields.specs.Formed.{amount}
 use Rattle.ticket.specs.Ruled.{option_set, face_set, body_of}
 use Rattle.ticket.specs.Text.{set_text, head_text, body_text}

@@ -1,5 +1,5 @@
 -- The four header lines together. Assumes nothing.
-use Rattle.std.proofs.Common.{◌≡◌, ℕ, ◌≤◌, leb, List, ◌∷◌, ◌++◌, Ok, codes, decimal, Result, sym, ap, ◌∙◌, subst, ap₂, append_assoc, arith}
+use Rattle.std.proofs.Common.{◌≡◌, ℕ, ◌+◌, ◌≤◌, leb, List, ◌∷◌, ◌++◌, Ok, codes, decimal, Result, sym, ap, ◌∙◌, subst, ap₂, append_assoc, arith}
 use Rattle.std.proofs.lemmas.Fmt.{decimal_digit}
 use Rattle.std.proofs.lemmas.Bool.{leb-true}
 use Rattle.fields.specs.Limits.{most_requests, most_checks, most_rules}
@@ -37,7 +37,7 @@ header_text_said h rest =
     ∙ ap (λ (t : List ℕ). codes "ticket=" ++ (t ++ (10 ∷ requests_said h rest))) (sym (decimal_digit 1 (omega arith)))
 
 -- the steps after each line
-abbrev after_rules : (room n k : ℕ) → ℕ × List ℕ → Result (Header × List ℕ) LineFault
+abbrev pub after_rules : (room n k : ℕ) → ℕ × List ℕ → Result (Header × List ℕ) LineFault
 after_rules room n k r = has_room r.0 room >>= λ _. Ok (record { requests = n; checks = k; rules = r.0 }, r.1)
 
 abbrev after_checks : (room n : ℕ) → ℕ × List ℕ → Result (Header × List ℕ) LineFault
@@ -88,17 +88,16 @@ headers_ok room text q e =
         let whole : text ≡ header_said Ticket 1 (requests_said h d.1) = first.0 ∙ ap₂ (header_said Ticket) one rest in
         subst (Headers room text) same (whole ∙ sym (header_text_said h d.1), record { requests = second.1.1; checks = third.1.1; few = fourth.1.1 }, fits)
 
--- the headers from their lines, where each gives a number
-pub headers_steps :
-    (room : ℕ) (text : List ℕ) (a n k r : ℕ × List ℕ)
-    → header_line Ticket 1 text ≡ Ok a
-    → header_line Requests 2 a.1 ≡ Ok n
-    → header_line Checks 3 n.1 ≡ Ok k
-    → header_line Rules 4 k.1 ≡ Ok r
-    → has_room r.0 room ≡ Ok tt → headers room text ≡ Ok (record { requests = n.0; checks = k.0; rules = r.0 }, r.1)
-headers_steps room text a n k r first second third fourth fits =
-    ap (λ (o : Result (ℕ × List ℕ) LineFault). o >>= after_ticket room) first
-    ∙ ap (λ (o : Result (ℕ × List ℕ) LineFault). o >>= after_requests room) second
-    ∙ ap (λ (o : Result (ℕ × List ℕ) LineFault). o >>= after_checks room n.0) third
-    ∙ ap (λ (o : Result (ℕ × List ℕ) LineFault). o >>= after_rules room n.0 k.0) fourth
-    ∙ ap (λ (o : Result (Unit {0}) LineFault). o >>= λ _. Ok (record { requests = n.0; checks = k.0; rules = r.0 }, r.1)) fits
+-- the headers from their last line, where the first three give numbers
+pub headers_last :
+    (room : ℕ) (text : List ℕ) (i j l : ℕ) (a n k : ℕ × List ℕ)
+    → (header_line Ticket 1 text ≡ Ok a) × (i ≡ 1 + 1) → (header_line Requests i a.1 ≡ Ok n) × (j ≡ i + 1) → (header_line Checks j n.1 ≡ Ok k) × (l ≡ j + 1)
+    → headers room text ≡ (header_line Rules l k.1 >>= after_rules room n.0 k.0)
+headers_last room text i j l a n k first second third =
+    let two : 2 ≡ i = omega arith in
+    let three : 3 ≡ j = omega arith in
+    let four : 4 ≡ l = omega arith in
+    ap (λ (o : Result (ℕ × List ℕ) LineFault). o >>= after_ticket room) first.0
+    ∙ ap (λ (o : Result (ℕ × List ℕ) LineFault). o >>= after_requests room) (ap (λ line. header_line Requests line a.1) two ∙ second.0)
+    ∙ ap (λ (o : Result (ℕ × List ℕ) LineFault). o >>= after_checks room n.0) (ap (λ line. header_line Checks line n.1) three ∙ third.0)
+    ∙ ap (λ line. header_line Rules line k.1 >>= after_rules room n.0 k.0) four

@@ -92,11 +92,11 @@ header_line_ok h line text q e =
     let whole = cut_whole 10 text a.0 (or_fault_ok (Cut line) (cut 10 text) a.0 a.1) in
     let begins = after_whole (key h) a.0.0 b.0 (or_fault_ok (Key line) (after (key h) a.0.0) b.0 b.1) in
     let values = values_of_ok (Header h) 0 line b.0 c.0 c.1 in
-    let same = ap (λ (m : ℕ). (m, a.0.1)) (same_ok (amount (get_or c.0 0 Dash)) n.0 c.2) ∙ same_ok (n.0, a.0.1) q n.2 in
-    from_parts c.0 a.0.0 a.0.1 b.0 whole begins values.0 values.1 same
+    from_parts c.0 a.0.0 a.0.1 b.0 n.0 whole begins values.0 values.1 (same_ok (amount (get_or c.0 0 Dash)) n.0 c.2) (same_ok (n.0, a.0.1) q n.2)
   where
-    from_parts : (vs : List Value) (front rest v : List ℕ) → text ≡ front ++ (10 ∷ rest) → front ≡ key h ++ v → Valued (Header h) 0 vs → v ≡ commas (map spelled vs) → (amount (get_or vs 0 Dash), rest) ≡ q → Says h text q
-    from_parts vs front rest v whole begins valued value same =
+    from_parts : (vs : List Value) (front rest v : List ℕ) (m : ℕ) → text ≡ front ++ (10 ∷ rest) → front ≡ key h ++ v → Valued (Header h) 0 vs → v ≡ commas (map spelled vs) → amount (get_or vs 0 Dash) ≡ m → (m, rest) ≡ q → Says h text q
+    from_parts vs front rest v m whole begins valued value said left =
+        let same = ap (λ (k : ℕ). (k, rest)) said ∙ left in
         let front_is : front ≡ key h ++ commas (map spelled vs) = begins ∙ ap (λ (t : List ℕ). key h ++ t) value in
         let text_is : (key h ++ commas (map spelled vs)) ++ (10 ∷ rest) ≡ text = sym (whole ∙ ap (λ (t : List ℕ). t ++ (10 ∷ rest)) front_is) in
         subst (Says h text) same (subst (λ (t : List ℕ). Says h t (amount (get_or vs 0 Dash), rest)) text_is (one_value_said h vs rest valued))

@@ -6,7 +6,7 @@ use Rattle.sets.specs.Members.{none, added_all, members}
 use Rattle.ticket.specs.Ruled.{head_of}
 use Rattle.ticket.specs.Text.{set_text, head_text}
 use Rattle.ticket.specs.Tickets.{SetOf, HeadInRange}
-use Rattle.fields.specs.Limits.{last_option}
+use Rattle.rules.specs.Limits.{last_option}
 use Rattle.fields.specs.declared.layout.Column.{Column}
 use Rattle.fields.specs.declared.layout.Style.TheVariants.{Head}
 use Rattle.fields.specs.declared.value.Value.{Value}

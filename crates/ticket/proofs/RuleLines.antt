@@ -77,11 +77,11 @@ rule_line_ok requests line text q e =
     let whole = cut_whole 10 text a.0 (or_fault_ok (Cut line) (cut 10 text) a.0 a.1) in
     let front = lettered_whole a.0.0 b.0 (or_fault_ok (Key line) (lettered a.0.0) b.0 b.1) in
     let values = values_of_ok (Rule b.0.0) requests line b.0.1 c.0 c.1 in
-    let same = ap (λ (s : RuleRecord). (s, a.0.1)) (same_ok (rule_of b.0.0 c.0) r.0 c.2) ∙ same_ok (r.0, a.0.1) q r.2 in
-    from_parts b.0.0 c.0 a.0.0 a.0.1 b.0.1 whole front values.0 values.1 same
+    from_parts b.0.0 c.0 a.0.0 a.0.1 b.0.1 r.0 whole front values.0 values.1 (same_ok (rule_of b.0.0 c.0) r.0 c.2) (same_ok (r.0, a.0.1) q r.2)
   where
-    from_parts : (k : Kind) (vs : List Value) (front rest v : List ℕ) → text ≡ front ++ (10 ∷ rest) → front ≡ letter k ∷ 61 ∷ v → Valued (Rule k) requests vs → v ≡ commas (map spelled vs) → (rule_of k vs, rest) ≡ q → Ruled requests text q
-    from_parts k vs front rest v whole begins valued value same =
+    from_parts : (k : Kind) (vs : List Value) (front rest v : List ℕ) (s : RuleRecord) → text ≡ front ++ (10 ∷ rest) → front ≡ letter k ∷ 61 ∷ v → Valued (Rule k) requests vs → v ≡ commas (map spelled vs) → rule_of k vs ≡ s → (s, rest) ≡ q → Ruled requests text q
+    from_parts k vs front rest v s whole begins valued value said left =
+        let same = ap (λ (t : RuleRecord). (t, rest)) said ∙ left in
         let line_is : front ≡ spelled_line k vs = begins ∙ ap (λ (t : List ℕ). letter k ∷ 61 ∷ t) value in
         let text_is : spelled_line k vs ++ (10 ∷ rest) ≡ text = sym (whole ∙ ap (λ (t : List ℕ). t ++ (10 ∷ rest)) line_is) in
         subst (Ruled requests text) same (subst (λ (t : List ℕ). Ruled requests t (rule_of k vs, rest)) text_is (spelled_line_ruled k requests vs rest valued))

@@ -7,7 +7,8 @@ use Rattle.rules.specs.declared.Rule.{Rule}
 use Rattle.sets.specs.Masks.{number_of}
 use Rattle.sets.specs.Members.{places, members}
 use Rattle.fields.specs.Faults.{at_field}
-use Rattle.fields.specs.Limits.{most_requests, most_checks, most_rules, last_option, last_mark, widest_gap, most_members}
+use Rattle.rules.specs.Limits.{last_option, last_mark, widest_gap, most_members}
+use Rattle.fields.specs.Limits.{most_requests, most_checks, most_rules}
 use Rattle.ticket.specs.Reading.{reading}
 use Rattle.ticket.specs.Text.{text_of}
 use Rattle.ticket.specs.declared.reader.Header.{Header}

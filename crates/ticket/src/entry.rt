@@ -8,6 +8,13 @@ ghost use Rattle.ticket.specs.Entry.{Says, Unknown};
 use fields::Heading;
 use rules::Kind;
 
+// A line of a ticket: its number, and its text without the byte 10.
+#[derive(Clone, Copy)]
+pub struct Line<'a> {
+    pub number: usize,
+    pub text: &'a [u8],
+}
+
 // Each case has the number of its line, and the value as the part of the ticket that follows the `=`.
 #[derive(Clone, Copy)]
 pub enum Entry<'a> {
@@ -27,13 +34,6 @@ pub enum Entry<'a> {
     },
 }
 
-// What follows the key, where the text begins with it.
-fn after<'a>(key: &[u8], text: &'a [u8]) -> Option<&'a [u8]>
-    ensures { option_map (λ x. x.now) result ≡ following key.now text.now }
-{
-    text.strip_prefix(key)
-}
-
 // A header's key, with the `=` after it.
 fn key(heading: Heading) -> &'static [u8]
     ensures { result.now ≡ key_of heading }
@@ -46,6 +46,7 @@ fn key(heading: Heading) -> &'static [u8]
     }
 }
 
+// Not a `TryFrom`: the project has the letters in a `match` on `char`s that answers the kind or none.
 fn kind_of(letter: char) -> Option<Kind>
     ensures { result ≡ kind_of letter }
 {
@@ -57,18 +58,6 @@ fn kind_of(letter: char) -> Option<Kind>
     }
 }
 
-fn rule(line: usize, text: &[u8]) -> Option<Entry<'_>>
-    ensures { MatchOption result (lettered text.now ≡ None) (Says line text.now) }
-{
-    match text {
-        [letter, b'=', value @ ..] => match kind_of(char::from(*letter)) {
-            Some(kind) => Some(Entry::Rule { kind, line, value }),
-            None => None,
-        },
-        _ => None,
-    }
-}
-
 const HEADINGS: [Heading; 4] = [
     Heading::Ticket,
     Heading::Requests,
@@ -76,39 +65,55 @@ const HEADINGS: [Heading; 4] = [
     Heading::Rules,
 ];
 
-fn header(line: usize, text: &[u8]) -> Option<Entry<'_>>
-    ensures { MatchOption result ((h : Heading) → following (key_of h) text.now ≡ None) (Says line text.now) }
-{
-    for heading in HEADINGS {
-        if let Some(value) = after(key(heading), text) {
-            return Some(Entry::Header {
-                heading,
-                line,
-                value,
-            });
+impl<'a> Line<'a> {
+    // What follows the key, where the line begins with it.
+    fn after(self, key: &[u8]) -> Option<&'a [u8]>
+        ensures { option_map (λ x. x.now) result ≡ following key.now self.entry.text.now }
+    {
+        self.text.strip_prefix(key)
+    }
+
+    fn as_rule(self) -> Option<Entry<'a>>
+        ensures { MatchOption result (lettered self.entry.text.now ≡ None) (Says self.entry.number self.entry.text.now) }
+    {
+        let line = self.number;
+        match self.text {
+            [letter, b'=', value @ ..] => {
+                kind_of(char::from(*letter)).map(|kind| Entry::Rule { kind, line, value })
+            }
+            _ => None,
         }
     }
-    None
-}
 
-fn end(line: usize, text: &[u8]) -> Option<Entry<'_>>
-    ensures { MatchOption result (following (codes "end=") text.now ≡ None) (Says line text.now) }
-{
-    match after(b"end=", text) {
-        Some(value) => Some(Entry::End { line, value }),
-        None => None,
+    fn as_header(self) -> Option<Entry<'a>>
+        ensures { MatchOption result ((h : Heading) → following (key_of h) self.entry.text.now ≡ None) (Says self.entry.number self.entry.text.now) }
+    {
+        let line = self.number;
+        // Leaves with the first key that fits; a `find_map` over a closure in a closure reads no plainer.
+        for heading in HEADINGS {
+            if let Some(value) = self.after(key(heading)) {
+                return Some(Entry::Header {
+                    heading,
+                    line,
+                    value,
+                });
+            }
+        }
+        None
     }
-}
 
-// The entry that a line is; none where it begins with no key.
-pub fn read_entry(line: usize, text: &[u8]) -> Option<Entry<'_>>
-    ensures { MatchOption result (Unknown text.now) (Says line text.now) }
-{
-    if let Some(entry) = rule(line, text) {
-        return Some(entry);
+    fn as_end(self) -> Option<Entry<'a>>
+        ensures { MatchOption result (following (codes "end=") self.entry.text.now ≡ None) (Says self.entry.number self.entry.text.now) }
+    {
+        let line = self.number;
+        self.after(b"end=").map(|value| Entry::End { line, value })
     }
-    if let Some(entry) = header(line, text) {
-        return Some(entry);
+
+    // The entry that the line is; none where it begins with no key.
+    pub fn entry(self) -> Option<Entry<'a>>
+        ensures { MatchOption result (Unknown self.entry.text.now) (Says self.entry.number self.entry.text.now) }
+    {
+        // Not `or_else`: of what a closure that captures the line gives, a proof learns nothing.
+        self.as_rule().or(self.as_header()).or(self.as_end())
     }
-    end(line, text)
 }

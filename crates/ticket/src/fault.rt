@@ -14,6 +14,7 @@ pub enum TicketFault {
     Tail(usize),
 }
 
+// Written out, since std derives no `From`; each `?` between the two needs it.
 impl From<LineFault> for TicketFault {
     ghost from_gives = { λ e r. r ≡ Line e };
 
@@ -23,6 +24,7 @@ impl From<LineFault> for TicketFault {
 }
 
 impl TicketFault {
+    // A case that holds a value can have no discriminant, so the numbers stand here.
     pub fn told(self) -> (u32, usize, usize)
         ensures { result ≡ told self }
     {

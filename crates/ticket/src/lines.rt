@@ -1,72 +1,12 @@
-// The lines of a ticket, one after another. Each function gives what it read and what is left of the text.
-ghost use Rattle.std.specs.Prelude.{◌≡◌, Ok, Err};
-ghost use Rattle.std.specs.Result.{result_map_both};
-ghost use Rattle.fields.specs.Cuts.{after};
+// The lines of a ticket, one after another.
+ghost use Rattle.std.specs.Prelude.{◌≡◌, ◌+◌, ◌^◌, ◌<◌, length, Ok, Err, MatchResult};
 ghost use Rattle.fields.specs.Formed.{in_line};
 ghost use Rattle.ticket.specs.Lines.{next_line, header_value, header_line, rule_value, rule_line, end_value, end_entry, end_line};
 
-use crate::entry::{Entry, read_entry};
+use crate::entry::{Entry, Line};
 use crate::ruled::{at, rule_of};
-use fields::{FieldFault, Flaw, Heading, LineFault, MOST, Sort, Value, checked, cut};
+use fields::{FieldFault, Flaw, Form, Heading, LineFault, Sort, cut};
 use rules::Rule;
-
-// CUT: the line, up to the next byte 10, and what stands after that byte.
-fn next_line(line: usize, text: &[u8]) -> Result<(&[u8], &[u8]), LineFault>
-    ensures { result_map_both (λ p. (p.0.now, p.1.now)) (λ e. e) result ≡ next_line line text.now }
-{
-    let Some(parts) = cut(text, b'\n') else {
-        return Err(LineFault::Cut(line));
-    };
-    Ok(parts)
-}
-
-fn header_value(heading: Heading, line: usize, text: &[u8]) -> Result<u32, LineFault>
-    ensures { result ≡ header_value heading line text.now }
-{
-    match read_entry(line, text) {
-        Some(
-            Entry::Header {
-                heading: found,
-                line,
-                value,
-            },
-        ) if found == heading => {
-            let mut values = [Value::Dash; MOST];
-            let n = checked(Sort::Header(heading), 0, line, value, &mut values)?;
-            Ok(at(&values[0..n], 0).amount())
-        }
-        _ => Err(LineFault::Key(line)),
-    }
-}
-
-pub fn header_line(heading: Heading, line: usize, text: &[u8]) -> Result<(u32, &[u8]), LineFault>
-    ensures { result_map_both (λ p. (p.0, p.1.now)) (λ e. e) result ≡ header_line heading line text.now }
-{
-    let (front, rest) = next_line(line, text)?;
-    let n = header_value(heading, line, front)?;
-    Ok((n, rest))
-}
-
-fn rule_value(requests: u32, line: usize, text: &[u8]) -> Result<Rule, LineFault>
-    ensures { result ≡ rule_value requests line text.now }
-{
-    match read_entry(line, text) {
-        Some(Entry::Rule { kind, line, value }) => {
-            let mut values = [Value::Dash; MOST];
-            let n = checked(Sort::Rule(kind), requests, line, value, &mut values)?;
-            Ok(rule_of(kind, &values[0..n]))
-        }
-        _ => Err(LineFault::Key(line)),
-    }
-}
-
-pub fn rule_line(requests: u32, line: usize, text: &[u8]) -> Result<(Rule, &[u8]), LineFault>
-    ensures { result_map_both (λ p. (p.0, p.1.now)) (λ e. e) result ≡ rule_line requests line text.now }
-{
-    let (front, rest) = next_line(line, text)?;
-    let rule = rule_value(requests, line, front)?;
-    Ok((rule, rest))
-}
 
 fn end_value(line: usize, value: &[u8]) -> Result<(), FieldFault>
     ensures { in_line result ≡ end_value line value.now }
@@ -81,20 +21,93 @@ fn end_value(line: usize, value: &[u8]) -> Result<(), FieldFault>
     })
 }
 
-fn end_entry(line: usize, text: &[u8]) -> Result<(), LineFault>
-    ensures { result ≡ end_entry line text.now }
-{
-    match read_entry(line, text) {
-        Some(Entry::End { line, value }) => Ok(end_value(line, value)?),
-        _ => Err(LineFault::Key(line)),
+impl Line<'_> {
+    // The number of the header that is due.
+    fn header(self, heading: Heading) -> Result<u32, LineFault>
+        ensures { result ≡ header_value heading self.entry.number self.entry.text.now }
+    {
+        // A `match`, for the guard on the heading.
+        match self.entry() {
+            Some(
+                Entry::Header {
+                    heading: found,
+                    line,
+                    value,
+                },
+            ) if found == heading => {
+                let form = Form {
+                    sort: Sort::Header(heading),
+                    requests: 0,
+                    line,
+                };
+                let values = form.checked(value)?;
+                Ok(at(&values, 0).amount())
+            }
+            _ => Err(LineFault::Key(self.number)),
+        }
+    }
+
+    fn rule(self, requests: u32) -> Result<Rule, LineFault>
+        ensures { result ≡ rule_value requests self.entry.number self.entry.text.now }
+    {
+        let Some(Entry::Rule { kind, line, value }) = self.entry() else {
+            return Err(LineFault::Key(self.number));
+        };
+        let form = Form {
+            sort: Sort::Rule(kind),
+            requests,
+            line,
+        };
+        let values = form.checked(value)?;
+        Ok(rule_of(kind, &values))
+    }
+
+    fn end(self) -> Result<(), LineFault>
+        ensures { result ≡ end_entry self.entry.number self.entry.text.now }
+    {
+        let Some(Entry::End { line, value }) = self.entry() else {
+            return Err(LineFault::Key(self.number));
+        };
+        Ok(end_value(line, value)?)
     }
 }
 
-// The last line; it gives what is left after it.
-pub fn end_line(line: usize, text: &[u8]) -> Result<&[u8], LineFault>
-    ensures { result_map_both (λ x. x.now) (λ e. e) result ≡ end_line line text.now }
-{
-    let (front, rest) = next_line(line, text)?;
-    end_entry(line, front)?;
-    Ok(rest)
+// What is left of a ticket, and the number of its next line.
+#[derive(Drop)]
+pub struct Rest<'a> {
+    pub line: usize,
+    pub text: &'a [u8],
+    // Each line takes a byte, so the number stays in its range.
+    ghost numbered: { line + length text.now < 2 ^ 64 },
+}
+
+impl<'a> Rest<'a> {
+    // CUT: the line, up to the next byte 10; what stands after that byte is left.
+    fn next_line(&mut self) -> Result<Line<'a>, LineFault>
+        ensures { MatchResult result (λ l. (next_line self.old.line self.old.text.now ≡ Ok (l.text.now, self.new.text.now)) × (l.number ≡ self.old.line) × (self.new.line ≡ self.old.line + 1)) (λ e. next_line self.old.line self.old.text.now ≡ Err e) }
+    {
+        let number = self.line;
+        let (text, rest) = cut(self.text, b'\n').ok_or(LineFault::Cut(number))?;
+        self.line = number + 1;
+        self.text = rest;
+        Ok(Line { number, text })
+    }
+
+    pub fn header(&mut self, heading: Heading) -> Result<u32, LineFault>
+        ensures { MatchResult result (λ n. (header_line heading self.old.line self.old.text.now ≡ Ok (n, self.new.text.now)) × (self.new.line ≡ self.old.line + 1)) (λ e. header_line heading self.old.line self.old.text.now ≡ Err e) }
+    {
+        self.next_line()?.header(heading)
+    }
+
+    pub fn rule(&mut self, requests: u32) -> Result<Rule, LineFault>
+        ensures { MatchResult result (λ r. (rule_line requests self.old.line self.old.text.now ≡ Ok (r, self.new.text.now)) × (self.new.line ≡ self.old.line + 1)) (λ e. rule_line requests self.old.line self.old.text.now ≡ Err e) }
+    {
+        self.next_line()?.rule(requests)
+    }
+
+    pub fn end(&mut self) -> Result<(), LineFault>
+        ensures { MatchResult result (λ _. (end_line self.old.line self.old.text.now ≡ Ok self.new.text.now) × (self.new.line ≡ self.old.line + 1)) (λ e. end_line self.old.line self.old.text.now ≡ Err e) }
+    {
+        self.next_line()?.end()
+    }
 }

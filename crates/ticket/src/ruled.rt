@@ -12,11 +12,7 @@ use sets::Mask;
 pub fn at(values: &[Value], i: usize) -> Value
     ensures { result ≡ slice_index_or values.now i Dash }
 {
-    if i < values.len() {
-        values[i]
-    } else {
-        Value::Dash
-    }
+    values.get(i).copied().unwrap_or(Value::Dash)
 }
 
 fn head(value: Value) -> Option<u32>
@@ -41,11 +37,10 @@ fn width(value: Value) -> i32
 fn members(values: &[Value]) -> Mask
     ensures { number_of result ≡ set_of values.now }
 {
-    let mut set = Mask::empty();
-    for i in 2..values.len() {
-        set = set.with(values[i].amount());
-    }
-    set
+    values
+        .iter()
+        .skip(2)
+        .fold(Mask::empty(), |set, value| set.with(value.amount()))
 }
 
 fn body(kind: Kind, values: &[Value]) -> Body

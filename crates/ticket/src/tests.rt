@@ -1,6 +1,6 @@
 // Tables of texts with what the reader must say of them, and what it must leave in the list.
-use crate::read;
-use rules::{Body, FaceSet, OptionSet, Rule};
+use crate::{TicketFault, read};
+use rules::Rule;
 use sets::Mask;
 use std::alloc::{AllocError, Global};
 use std::test::Fail;
@@ -11,10 +11,8 @@ const MOST: usize = 97;
 fn told(text: &[u8], room: usize) -> (u32, usize, usize) {
     let mut rules = [Rule::blank(); MOST];
     let n = room.min(MOST);
-    match read(text, &mut rules[0..n]) {
-        Ok(_) => (0, 0, 0),
-        Err(fault) => fault.told(),
-    }
+    let answer = read(text, &mut rules[0..n]);
+    answer.err().map_or((0, 0, 0), TicketFault::told)
 }
 
 // A text, and number, line and field of its refusal; noughts where it is accepted.
@@ -268,24 +266,7 @@ fn lengths(rt: HostRuntime) -> Result<(), Fail> {
 
 // What a list may hold before it is handed over.
 fn stale() -> Rule {
-    gap(7, 1, 2, 3)
-}
-
-fn options(owner: u32, head: Option<u32>, members: Mask) -> Rule {
-    let options = OptionSet { members };
-    let body = Some(Body::Options { head, options });
-    Rule { owner, body }
-}
-
-fn faces(owner: u32, odd: bool, members: Mask) -> Rule {
-    let faces = FaceSet { members };
-    let body = Some(Body::Faces { odd, faces });
-    Rule { owner, body }
-}
-
-fn gap(owner: u32, a: u32, b: u32, w: i32) -> Rule {
-    let body = Some(Body::Gap { a, b, w });
-    Rule { owner, body }
+    Rule::gap(7, 1, 2, 3)
 }
 
 #[test]
@@ -295,10 +276,16 @@ fn what_is_read(rt: HostRuntime) -> Result<(), Fail> {
         b"ticket=1\nrequests=3\nchecks=100\nrules=4\nh=0,-,0,31\nh=3,7\ng=1,2,15,-10000\nf=2,1,4,5\nend=ticket\n";
     let header = read(text, &mut list)?;
     assert_eq!(rt; (header.requests, header.checks, header.rules), (3, 100, 4));
-    assert_eq!(rt; list[0], options(0, None, Mask::empty().with(0).with(31)));
-    assert_eq!(rt; list[1], options(3, Some(7), Mask::empty()));
-    assert_eq!(rt; list[2], gap(1, 2, 15, -10_000));
-    assert_eq!(rt; list[3], faces(2, true, Mask::empty().with(5).with(4)));
+    assert_eq!(rt;
+        list[0],
+        Rule::options(0, None, Mask::empty().with(0).with(31))
+    );
+    assert_eq!(rt; list[1], Rule::options(3, Some(7), Mask::empty()));
+    assert_eq!(rt; list[2], Rule::gap(1, 2, 15, -10_000));
+    assert_eq!(rt;
+        list[3],
+        Rule::faces(2, true, Mask::empty().with(5).with(4))
+    );
     assert_eq!(rt; list[4], Rule::blank());
     Ok(())
 }

@@ -1,48 +1,60 @@
 // The oracles over rules against exhaustive search, on lists by lot.
-use crate::asked::told;
 use crate::played::Told;
-use crate::search::{Lot, some_serves};
-use rules::{Kind, Rule};
+use crate::search::{Heeded, Lot};
+use oracle::Verdict;
+use rules::Kind;
 use std::process::Abort;
 
 // Lists for each kind.
 const LISTS: u32 = 300;
 
 // Owners are 0 to 3, so all sets of three requests.
+const WIDTH: u32 = 3;
+
 const SETS: u32 = 8;
 
-// How many sets are fit, where the oracle and the search agree on each.
-fn agree_on(rt: &impl Abort, kind: Kind, list: u32, rules: &[Rule]) -> u32 {
-    let mut fit: u32 = 0;
-    for bits in 0..SETS {
-        let mut found = Told::Unfit;
-        if some_serves(kind, rules, bits) {
-            found = Told::Fit;
-            fit = fit.saturating_add(1);
-        }
-        assert_eq!(rt;
-            (list, bits, told(kind, rules, 3, bits)),
-            (list, bits, found)
-        );
-    }
+// Whether a set is fit, where the oracle and the search agree.
+fn is_fit(rt: &impl Abort, list: u32, heeded: Heeded<'_>, bits: u32) -> bool {
+    let fit = heeded.some_serves(bits);
+    assert_eq!(rt;
+        (list, bits, heeded.told(bits)),
+        (list, bits, Told::from(Verdict { fit }))
+    );
     fit
 }
 
-// How many sets of all lists are fit.
-fn agree(rt: &impl Abort, kind: Kind, seed: u32) -> u32 {
+// How many sets are fit by one list.
+fn agree_on(rt: &impl Abort, list: u32, heeded: Heeded<'_>) -> usize {
+    (0..SETS)
+        .filter(|bits| is_fit(rt, list, heeded, *bits))
+        .count()
+}
+
+// How many sets of all lists are fit. A `sum` would have to be proved to fit its type.
+fn agree(rt: &impl Abort, kind: Kind, seed: u32) -> usize {
     let mut lot = Lot { state: seed };
-    let mut fit: u32 = 0;
-    for list in 0..LISTS {
-        fit = fit.saturating_add(agree_on(rt, kind, list, &lot.list(kind)));
-    }
-    fit
+    (0..LISTS)
+        .map(|list| {
+            let rules = &lot.list(kind);
+            agree_on(
+                rt,
+                list,
+                Heeded {
+                    kind,
+                    rules,
+                    width: WIDTH,
+                },
+            )
+        })
+        .fold(0, usize::saturating_add)
 }
 
 // Both verdicts come often, of 2,400.
-fn often(rt: &impl Abort, fit: u32) {
+fn often(rt: &impl Abort, fit: usize) {
     assert_eq!(rt; (fit, 500 <= fit, fit <= 1_900), (fit, true, true));
 }
 
+// A test takes no kind, so there are three.
 #[test]
 fn options_agree(rt: HostRuntime) {
     often(&rt, agree(&rt, Kind::Options, 1));

@@ -1,11 +1,16 @@
 // Lists of rules with known verdicts, for the oracle of each kind.
-use crate::asked::{play_by, told, width_by};
-use crate::made::{faces, gap, options};
+use crate::made::{faces, options};
 use crate::played::Call::{Check, Grant};
 use crate::played::Told::{Fit, Granted, Refused, Unfit};
-use crate::played::{Step, Told};
+use crate::played::{Step, Told, play};
+use crate::search::Heeded;
+use faces::Faces;
+use gaps::Gaps;
+use options::Options;
+use oracle::{Oracle, Verdict};
 use rules::{Kind, Rule};
 use std::alloc::{AllocError, Global};
+use std::iter::once;
 use std::process::Abort;
 use std::test::Fail;
 use ticket::read;
@@ -184,30 +189,17 @@ const FACES: [Case; 24] = [
     ),
 ];
 
-fn wanted(fit: bool) -> Told {
-    if fit { Fit } else { Unfit }
-}
-
 fn ticket_of(heap: Global, case: &Case) -> Result<String, AllocError> {
-    let requests = case.0;
-    let rules = case.1.lines().count();
-    let lines = case.1;
+    let Case(requests, lines, ..) = case;
+    let rules = lines.lines().count();
     format!(in heap; "ticket=1\nrequests={requests}\nchecks=0\nrules={rules}\n{lines}end=ticket\n")
 }
 
-fn each_set(
-    rt: &impl Abort,
-    kind: Kind,
-    rules: &[Rule],
-    width: u32,
-    sets: &[u32],
-    fit: bool,
-    lines: &str,
-) {
+fn each_set(rt: &impl Abort, heeded: Heeded<'_>, sets: &[u32], fit: bool, lines: &str) {
     for bits in sets {
         assert_eq!(rt;
-            (*bits, told(kind, rules, width, *bits)),
-            (*bits, wanted(fit)),
+            (*bits, heeded.told(*bits)),
+            (*bits, Told::from(Verdict { fit })),
             "{lines}"
         );
     }
@@ -218,12 +210,14 @@ fn each_case(rt: &impl Abort, kind: Kind, heap: Global, cases: &[Case]) -> Resul
         let mut rules = [Rule::blank(); MOST];
         let text = ticket_of(heap, case)?;
         let width = read(text.as_bytes(), &mut rules)?.requests;
-        each_set(rt, kind, &rules, width, case.2, true, case.1);
-        each_set(rt, kind, &rules, width, case.3, false, case.1);
+        let rules = &rules;
+        each_set(rt, Heeded { kind, rules, width }, case.2, true, case.1);
+        each_set(rt, Heeded { kind, rules, width }, case.3, false, case.1);
     }
     Ok(())
 }
 
+// A test takes no kind, so there are three.
 #[test]
 fn tickets_of_options(rt: HostRuntime) -> Result<(), Fail> {
     each_case(&rt, Kind::Options, rt.alloc(), &OPTIONS)
@@ -239,18 +233,38 @@ fn tickets_of_faces(rt: HostRuntime) -> Result<(), Fail> {
     each_case(&rt, Kind::Faces, rt.alloc(), &FACES)
 }
 
-// Whether the sets 0 to 3 of two requests are fit, by the list in either order.
-fn both_ways(rt: &impl Abort, kind: Kind, mut rules: [Rule; MOST], fit: [bool; 4]) {
-    four_sets(rt, kind, &rules, fit);
-    rules.reverse();
-    four_sets(rt, kind, &rules, fit);
+// A list that begins with these rules; the others are blank.
+fn list_of<const N: usize, I: Iterator<Item = Rule> + Drop>(rules: I) -> [Rule; N]
+    requires { I.can_next rules }
+{
+    let mut list = [Rule::blank(); N];
+    for (entry, rule) in list.iter_mut().zip(rules) {
+        *entry = rule;
+    }
+    list
 }
 
-fn four_sets(rt: &impl Abort, kind: Kind, rules: &[Rule], fit: [bool; 4]) {
-    for bits in 0..4 {
+// Whether the sets 0 to 3 of two requests are fit, by the list in either order.
+fn both_ways(rt: &impl Abort, kind: Kind, mut rules: [Rule; MOST], fit: [bool; 4]) {
+    four_sets(rt, two(kind, &rules), fit);
+    rules.reverse();
+    four_sets(rt, two(kind, &rules), fit);
+}
+
+// Of two requests.
+fn two(kind: Kind, rules: &[Rule]) -> Heeded<'_> {
+    Heeded {
+        kind,
+        rules,
+        width: 2,
+    }
+}
+
+fn four_sets(rt: &impl Abort, heeded: Heeded<'_>, fit: [bool; 4]) {
+    for (bits, fit) in (0..4).zip(fit) {
         assert_eq!(rt;
-            (bits, told(kind, rules, 2, bits)),
-            (bits, wanted(fit[bits as usize]))
+            (bits, heeded.told(bits)),
+            (bits, Told::from(Verdict { fit }))
         );
     }
 }
@@ -258,24 +272,16 @@ fn four_sets(rt: &impl Abort, kind: Kind, rules: &[Rule], fit: [bool; 4]) {
 // Request 1 turns option 0 on, and each option the next, up to 31, which request 2 bars. In the reverse order a pass over the list turns only one on.
 #[test]
 fn chain_of_options(rt: HostRuntime) {
-    let mut rules = [Rule::blank(); MOST];
-    rules[0] = options(1, Some(0), 0);
-    for i in 0..31_u32 {
-        rules[i as usize + 1] = options(0, Some(i + 1), 1 << i);
-    }
-    rules[32] = options(2, None, 1 << 31);
+    let first = once(options(1, Some(0), 0));
+    let others = (0..31_u32).map(|i| options(0, Some(i + 1), 1 << i));
+    let rules = list_of(first.chain(others).chain([options(2, None, 1 << 31)]));
     both_ways(&rt, Kind::Options, rules, [true, true, true, false]);
 }
 
 // Each mark minus the next is at most w, from 0 to 15; each request closes the ring with a w of its own.
 fn chain_of_marks(w: i32, first: i32, second: i32) -> [Rule; MOST] {
-    let mut rules = [Rule::blank(); MOST];
-    for i in 0..15_u32 {
-        rules[i as usize] = gap(0, i, i + 1, w);
-    }
-    rules[15] = gap(1, 15, 0, first);
-    rules[16] = gap(2, 15, 0, second);
-    rules
+    let chain = (0..15_u32).map(|i| Rule::gap(0, i, i + 1, w));
+    list_of(chain.chain([Rule::gap(1, 15, 0, first), Rule::gap(2, 15, 0, second)]))
 }
 
 #[test]
@@ -291,25 +297,19 @@ fn chains_of_gaps(rt: HostRuntime) {
 // Eight gaps of -10,000 and eight of 10,000, in a ring of all marks. Request 1 asks 9,999 of the last; request 2 asks less of the first than the house does.
 #[test]
 fn ring_of_both_ends(rt: HostRuntime) {
-    let mut rules = [Rule::blank(); MOST];
-    for i in 0..8_u32 {
-        rules[i as usize] = gap(0, i, i + 1, -10_000);
-        rules[i as usize + 8] = gap(0, i + 8, (i + 9) % 16, 10_000);
-    }
-    rules[16] = gap(1, 15, 0, 9_999);
-    rules[17] = gap(2, 0, 1, -9_999);
+    let least = (0..8_u32).map(|i| Rule::gap(0, i, i + 1, -10_000));
+    let greatest = (8..16_u32).map(|i| Rule::gap(0, i, (i + 1) % 16, 10_000));
+    let asked = [Rule::gap(1, 15, 0, 9_999), Rule::gap(2, 0, 1, -9_999)];
+    let rules = list_of(least.chain(greatest).chain(asked));
     both_ways(&rt, Kind::Gaps, rules, [true, false, true, false]);
 }
 
 // Each face lies otherwise than the next, from 0 to 31; request 1 asks so of the last and the first, and request 2 the contrary.
 #[test]
 fn chain_of_faces(rt: HostRuntime) {
-    let mut rules = [Rule::blank(); MOST];
-    for i in 0..31_u32 {
-        rules[i as usize] = faces(0, true, 3 << i);
-    }
-    rules[31] = faces(1, true, 0x8000_0001);
-    rules[32] = faces(2, false, 0x8000_0001);
+    let chain = (0..31_u32).map(|i| faces(0, true, 3 << i));
+    let asked = [faces(1, true, 0x8000_0001), faces(2, false, 0x8000_0001)];
+    let rules = list_of(chain.chain(asked));
     both_ways(&rt, Kind::Faces, rules, [true, true, false, false]);
 }
 
@@ -319,26 +319,36 @@ const KINDS: [Kind; 3] = [Kind::Options, Kind::Gaps, Kind::Faces];
 fn unmet(kind: Kind, owner: u32) -> [Rule; 2] {
     match kind {
         Kind::Options => [options(owner, None, 0), Rule::blank()],
-        Kind::Gaps => [gap(owner, 0, 0, -1), Rule::blank()],
+        Kind::Gaps => [Rule::gap(owner, 0, 0, -1), Rule::blank()],
         Kind::Faces => [faces(owner, true, 1), faces(owner, false, 1)],
     }
+}
+
+// What the oracle says of the one set of a ticket with no request.
+fn nobody(kind: Kind, rules: &[Rule]) -> Told {
+    let heeded = Heeded {
+        kind,
+        rules,
+        width: 0,
+    };
+    heeded.told(0)
 }
 
 // An oracle passes over rules of the other kinds.
 fn heeds(rt: &impl Abort, kind: Kind) {
     for other in KINDS {
         assert_eq!(rt;
-            (other, told(kind, &unmet(other, 0), 0, 0)),
-            (other, wanted(kind != other))
+            (other, nobody(kind, &unmet(other, 0))),
+            (other, Told::from(Verdict { fit: kind != other }))
         );
     }
 }
 
 #[test]
 fn rules_of_other_kinds(rt: HostRuntime) {
-    heeds(&rt, Kind::Options);
-    heeds(&rt, Kind::Gaps);
-    heeds(&rt, Kind::Faces);
+    for kind in KINDS {
+        heeds(&rt, kind);
+    }
 }
 
 // Rules that cannot be met, of request 3 among three.
@@ -374,46 +384,48 @@ const NOBODY: [Step; 2] = [
     Step(Check(1), Refused(10, 0), None),
 ];
 
+// Plays with the oracle of each kind, over rules of that kind that nothing meets.
+fn play_each(rt: &impl Abort, owner: u32, width: u32, steps: &[Step]) -> Result<(), Fail> {
+    let [h, g, f] = KINDS.map(|kind| unmet(kind, owner));
+    play(rt, &mut Options::new(&h, width), steps)?;
+    play(rt, &mut Gaps::new(&g, width), steps)?;
+    play(rt, &mut Faces::new(&f, width), steps)
+}
+
 #[test]
 fn calls_with_three_requests(rt: HostRuntime) -> Result<(), Fail> {
-    for kind in KINDS {
-        play_by(&rt, kind, &unmet(kind, 3), 3, &THREE)?;
-    }
-    Ok(())
+    play_each(&rt, 3, 3, &THREE)
 }
 
 #[test]
 fn owners_above_the_width(rt: HostRuntime) -> Result<(), Fail> {
-    for kind in KINDS {
-        play_by(&rt, kind, &unmet(kind, 5), 3, &ABOVE)?;
-        play_by(&rt, kind, &unmet(kind, 1), 0, &NOBODY)?;
-    }
-    Ok(())
+    play_each(&rt, 5, 3, &ABOVE)?;
+    play_each(&rt, 1, 0, &NOBODY)
 }
 
 // A width, and what it is then.
 const WIDTHS: [(u32, u32); 5] = [(0, 0), (3, 3), (32, 32), (33, 32), (0xffff_ffff, 32)];
 
-fn widths(rt: &impl Abort, kind: Kind) {
-    for (given, width) in WIDTHS {
-        assert_eq!(rt; width_by(kind, &[], given), width);
-    }
-}
-
 #[test]
 fn widths_above_the_widest(rt: HostRuntime) -> Result<(), Fail> {
-    for kind in KINDS {
-        widths(&rt, kind);
-        play_by(&rt, kind, &unmet(kind, 32), 32, &WIDE)?;
-        play_by(&rt, kind, &unmet(kind, 32), 33, &WIDE)?;
+    for (given, width) in WIDTHS {
+        assert_eq!(rt; Options::new(&[], given).width(), width);
+        assert_eq!(rt; Gaps::new(&[], given).width(), width);
+        assert_eq!(rt; Faces::new(&[], given).width(), width);
     }
-    Ok(())
+    play_each(&rt, 32, 32, &WIDE)?;
+    play_each(&rt, 32, 33, &WIDE)
 }
 
 // No set of 32 requests is unfit.
 fn all_blank(rt: &impl Abort, kind: Kind, rules: &[Rule]) {
-    assert_eq!(rt; told(kind, rules, 32, 0), Fit);
-    assert_eq!(rt; told(kind, rules, 32, 0xffff_ffff), Fit);
+    let heeded = Heeded {
+        kind,
+        rules,
+        width: 32,
+    };
+    assert_eq!(rt; heeded.told(0), Fit);
+    assert_eq!(rt; heeded.told(0xffff_ffff), Fit);
 }
 
 // Records that no rule line can say, which count as blank. Each would make a set unfit if it were heeded, or taken for one with a smaller number.
@@ -431,16 +443,16 @@ fn garbage_of_options(rt: HostRuntime) {
 #[test]
 fn garbage_of_gaps(rt: HostRuntime) {
     let rules = [
-        gap(33, 0, 0, -1),
-        gap(0, 16, 16, -1),
-        gap(0, 16, 0, -1),
-        gap(0, 0, 16, -1),
-        gap(0, 0, 0, -10_001),
-        gap(0, 0, 0, -2_147_483_648),
+        Rule::gap(33, 0, 0, -1),
+        Rule::gap(0, 16, 16, -1),
+        Rule::gap(0, 16, 0, -1),
+        Rule::gap(0, 0, 16, -1),
+        Rule::gap(0, 0, 0, -10_001),
+        Rule::gap(0, 0, 0, -2_147_483_648),
         // With the two after it, which count, this would be a ring of -1.
-        gap(0, 0, 1, 10_001),
-        gap(0, 1, 2, -10_000),
-        gap(0, 2, 0, -2),
+        Rule::gap(0, 0, 1, 10_001),
+        Rule::gap(0, 1, 2, -10_000),
+        Rule::gap(0, 2, 0, -2),
     ];
     all_blank(&rt, Kind::Gaps, &rules);
 }
@@ -453,29 +465,21 @@ fn garbage_of_faces(rt: HostRuntime) {
 
 // Options 0 to 8 are on, and the first so many of them are barred.
 fn barred(count: u32) -> [Rule; 10] {
-    let mut rules = [Rule::blank(); 10];
-    for i in 0..9_u32 {
-        rules[i as usize] = options(0, Some(i), 0);
-    }
-    rules[9] = options(0, None, (1 << count.min(9)) - 1);
-    rules
+    let on = (0..9_u32).map(|i| options(0, Some(i), 0));
+    list_of(on.chain([options(0, None, (1 << count.min(9)) - 1)]))
 }
 
 // Faces 0 to 8 lie at the front, and the first so many of them are to be odd.
 fn fronted(count: u32) -> [Rule; 10] {
-    let mut rules = [Rule::blank(); 10];
-    for i in 0..9_u32 {
-        rules[i as usize] = faces(0, false, 1 << i);
-    }
-    rules[9] = faces(0, true, (1 << count.min(9)) - 1);
-    rules
+    let front = (0..9_u32).map(|i| faces(0, false, 1 << i));
+    list_of(front.chain([faces(0, true, (1 << count.min(9)) - 1)]))
 }
 
 // Eight members are heeded, nine not.
 #[test]
 fn members_of_a_rule(rt: HostRuntime) {
-    assert_eq!(rt; told(Kind::Options, &barred(8), 0, 0), Unfit);
-    assert_eq!(rt; told(Kind::Options, &barred(9), 0, 0), Fit);
-    assert_eq!(rt; told(Kind::Faces, &fronted(8), 0, 0), Unfit);
-    assert_eq!(rt; told(Kind::Faces, &fronted(9), 0, 0), Fit);
+    assert_eq!(rt; nobody(Kind::Options, &barred(8)), Unfit);
+    assert_eq!(rt; nobody(Kind::Options, &barred(9)), Fit);
+    assert_eq!(rt; nobody(Kind::Faces, &fronted(8)), Unfit);
+    assert_eq!(rt; nobody(Kind::Faces, &fronted(9)), Fit);
 }

@@ -4,7 +4,7 @@ use crate::played::Told::{Fit, Granted, Refused, Unfit};
 use crate::played::{Step, play};
 use crate::probe::{Probe, counted, endless};
 use layers::{Both, Cover, Quota};
-use oracle::{CheckRefusal, Oracle, Verdict};
+use oracle::{Oracle, Verdict};
 use sets::Set;
 use std::process::Abort;
 use std::test::Fail;
@@ -152,19 +152,10 @@ fn cover_decides_by_what_it_keeps(rt: HostRuntime) -> Result<(), Fail> {
 
 // Checks every pair of 12 requests, 66 in all, and tells what is then left.
 fn ask_pairs(rt: &impl Abort, cover: &mut Cover<Probe>, fit: bool) -> Option<u32> {
-    for bits in 0..4096u32 {
-        if bits.count_ones() == 2 {
-            assert_eq!(rt; says_fit(cover.check(Set::new(bits))), fit);
-        }
+    for bits in (0..4096_u32).filter(|bits| bits.count_ones() == 2) {
+        assert_eq!(rt; cover.check(Set::new(bits)), Ok(Verdict { fit }));
     }
     cover.left()
-}
-
-fn says_fit(answer: Result<Verdict, CheckRefusal>) -> bool {
-    match answer {
-        Ok(verdict) => verdict.fit,
-        Err(_) => false,
-    }
 }
 
 // Of 66 pairs 64 are kept, so the second time two are asked below again; and so the third time.

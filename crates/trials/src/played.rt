@@ -10,7 +10,7 @@ pub enum Call {
     Grant(u32),
 }
 
-// What an answer is: a verdict or none, or the number of a refusal and the label that it tells.
+// What an answer is: a verdict or none, or the number of a refusal and the label that it tells; numbers, so that tables can say them as docs/REFUSALS.md does.
 #[derive(Clone, Copy, PartialEq, Eq, Debug)]
 pub enum Told {
     Fit,
@@ -22,39 +22,44 @@ pub enum Told {
 // A call, what it must answer, and what must then be left; none where it is endless.
 pub struct Step(pub Call, pub Told, pub Option<u32>);
 
-fn checked(answer: Result<Verdict, CheckRefusal>) -> Told {
-    match answer {
-        Ok(verdict) => { if verdict.fit { Told::Fit } else { Told::Unfit } }
-        Err(refusal) => {
-            let label = match refusal.value() {
-                Some(label) => label as u32,
-                None => 0,
-            };
-            Told::Refused(refusal.number(), label)
-        }
+impl From<Verdict> for Told {
+    fn from(verdict: Verdict) -> Told {
+        if verdict.fit { Told::Fit } else { Told::Unfit }
     }
 }
 
-fn granted(answer: Result<(), GrantRefusal>) -> Told {
-    match answer {
-        Ok(()) => Told::Granted,
-        Err(refusal) => Told::Refused(refusal.number(), 0),
+impl From<CheckRefusal> for Told {
+    fn from(refusal: CheckRefusal) -> Told {
+        Told::Refused(refusal.number(), refusal.value().map_or(0, u32::from))
+    }
+}
+
+impl From<GrantRefusal> for Told {
+    fn from(refusal: GrantRefusal) -> Told {
+        Told::Refused(refusal.number(), 0)
     }
 }
 
 // What it answers to a check of the set with this number.
 pub fn ask<O: Oracle>(oracle: &mut O, bits: u32) -> Told {
-    checked(oracle.check(Set::new(bits)))
+    oracle
+        .check(Set::new(bits))
+        .map_or_else(Told::from, Told::from)
+}
+
+fn grant<O: Oracle>(oracle: &mut O, checks: u32) -> Told {
+    oracle
+        .grant(checks)
+        .map_or_else(Told::from, |()| Told::Granted)
 }
 
 pub fn play<O: Oracle>(rt: &impl Abort, oracle: &mut O, steps: &[Step]) -> Result<(), Fail> {
-    for step in steps {
-        let told = match step.0 {
-            Call::Check(bits) => ask(oracle, bits),
-            Call::Grant(checks) => granted(oracle.grant(checks)),
+    for Step(call, told, left) in steps {
+        let answer = match call {
+            Call::Check(bits) => ask(oracle, *bits),
+            Call::Grant(checks) => grant(oracle, *checks),
         };
-        assert_eq!(rt; told, step.1);
-        assert_eq!(rt; oracle.left(), step.2);
+        assert_eq!(rt; (answer, oracle.left()), (*told, *left));
     }
     Ok(())
 }

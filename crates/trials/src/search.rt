@@ -1,8 +1,9 @@
 // Whether some choice of options 0 to 3, of marks 0 to 2 or of faces 0 to 3 meets the rules in force, by trying each; and lists of such rules, by lot.
 // It is written from docs/RULES.md, and shares no step with the oracles.
-use crate::made::{faces, gap, options};
+use crate::made::{faces, options};
 use rules::{Body, Kind, Rule};
 use sets::Mask;
+use std::array;
 
 // How many options, and how many faces.
 const FEW: u32 = 4;
@@ -25,22 +26,14 @@ fn is_on(choice: u32, i: u32) -> bool {
 }
 
 fn all_on(choice: u32, options: Mask) -> bool {
-    for i in 0..FEW {
-        if options.contains(i) && !is_on(choice, i) {
-            return false;
-        }
-    }
-    true
+    (0..FEW)
+        .filter(|i| options.contains(*i))
+        .all(|i| is_on(choice, i))
 }
 
 fn adds_up_odd(choice: u32, faces: Mask) -> bool {
-    let mut odd = false;
-    for i in 0..FEW {
-        if faces.contains(i) && is_on(choice, i) {
-            odd = !odd;
-        }
-    }
-    odd
+    let back = (0..FEW).filter(|i| faces.contains(*i) && is_on(choice, *i));
+    back.count() % 2 == 1
 }
 
 fn place(choice: u32, mark: u32) -> i64 {
@@ -55,11 +48,7 @@ fn place(choice: u32, mark: u32) -> i64 {
 fn meets(kind: Kind, choice: u32, rule: &Rule) -> bool {
     match (kind, rule.body) {
         (Kind::Options, Some(Body::Options { head, options })) => {
-            let premise = all_on(choice, options.members);
-            match head {
-                Some(head) => !premise || is_on(choice, head),
-                None => !premise,
-            }
+            !all_on(choice, options.members) || head.is_some_and(|head| is_on(choice, head))
         }
         (Kind::Gaps, Some(Body::Gap { a, b, w })) => {
             place(choice, a).wrapping_sub(place(choice, b)) <= i64::from(w)
@@ -73,27 +62,29 @@ fn meets(kind: Kind, choice: u32, rule: &Rule) -> bool {
 
 // Whether a rule is in force for the set with this number, in which request r is worth 2^(r-1).
 fn counts(rule: &Rule, bits: u32) -> bool {
-    let owner = rule.owner;
-    owner == 0 || owner <= 32 && (bits >> (owner - 1)) % 2 == 1
+    rule.owner == 0 || is_on(bits, rule.owner - 1)
 }
 
-fn serves(kind: Kind, choice: u32, rules: &[Rule], bits: u32) -> bool {
-    for rule in rules {
-        if counts(rule, bits) && !meets(kind, choice, rule) {
-            return false;
-        }
-    }
-    true
+// Rules of which those of one kind are heeded, on a ticket of so many requests.
+#[derive(Clone, Copy)]
+pub struct Heeded<'a> {
+    pub kind: Kind,
+    pub rules: &'a [Rule],
+    pub width: u32,
 }
 
-// Whether some choice of that kind serves for the set with this number.
-pub fn some_serves(kind: Kind, rules: &[Rule], bits: u32) -> bool {
-    for choice in 0..choices(kind) {
-        if serves(kind, choice, rules, bits) {
-            return true;
-        }
+impl Heeded<'_> {
+    fn serves(self, choice: u32, bits: u32) -> bool {
+        self.rules
+            .iter()
+            .filter(|rule| counts(rule, bits))
+            .all(|rule| meets(self.kind, choice, rule))
     }
-    false
+
+    // Whether some choice of that kind serves for the set with this number.
+    pub fn some_serves(self, bits: u32) -> bool {
+        (0..choices(self.kind)).any(|choice| self.serves(choice, bits))
+    }
 }
 
 // The most rules of a list by lot.
@@ -119,23 +110,13 @@ impl Lot {
     fn options(&mut self, owner: u32) -> Rule {
         let bits = self.draw(15) & self.draw(15);
         let head = self.draw(7);
-        if head < FEW {
-            options(owner, Some(head), bits)
-        } else {
-            options(owner, None, bits)
-        }
+        options(owner, (head < FEW).then_some(head), bits)
     }
 
     fn gap(&mut self, owner: u32) -> Rule {
         let a = self.draw(2);
         let b = self.draw(2);
-        match self.draw(4) {
-            0 => gap(owner, a, b, -2),
-            1 => gap(owner, a, b, -1),
-            2 => gap(owner, a, b, 0),
-            3 => gap(owner, a, b, 1),
-            _ => gap(owner, a, b, 2),
-        }
+        Rule::gap(owner, a, b, self.draw(4).cast_signed().wrapping_sub(2))
     }
 
     fn faces(&mut self, owner: u32) -> Rule {
@@ -155,10 +136,6 @@ impl Lot {
     }
 
     pub fn list(&mut self, kind: Kind) -> [Rule; MOST] {
-        let mut rules = [Rule::blank(); MOST];
-        for i in 0..MOST {
-            rules[i] = self.rule(kind);
-        }
-        rules
+        array::from_fn(|_| self.rule(kind))
     }
 }

@@ -21,9 +21,9 @@ returns c =
     let f = c.new-2.result in
     let r = c.new-5.result in
     let k = c.new-4.result in
-    let h_is : options_meaning o ≡ options.meant width rules = all_meant options.meant o.width width o.rules.now rules c.new-3.ensures.0 c.new-3.ensures.1 in
-    let g_is : gaps_meaning g ≡ gaps.meant width rules = all_meant gaps.meant g.width width g.rules.now rules c.new.ensures.0 c.new.ensures.1 in
-    let f_is : faces_meaning f ≡ faces.meant width rules = all_meant faces.meant f.width width f.rules.now rules c.new-2.ensures.0 c.new-2.ensures.1 in
+    let h_is : options_meaning o ≡ options.meant width rules = all_meant options.meant o.list.width width o.list.rules.now rules c.new-3.ensures.0 c.new-3.ensures.1 in
+    let g_is : gaps_meaning g ≡ gaps.meant width rules = all_meant gaps.meant g.list.width width g.list.rules.now rules c.new.ensures.0 c.new.ensures.1 in
+    let f_is : faces_meaning f ≡ faces.meant width rules = all_meant faces.meant f.list.width width f.list.rules.now rules c.new-2.ensures.0 c.new-2.ensures.1 in
     let pair : both_meaning gaps_meaning faces_meaning c.new-gaps_and_faces.result ≡ both (gaps.meant width rules) (faces.meant width rules) =
     ap (λ x. both (gaps_meaning x) (faces_meaning c.new-gaps_and_faces.result.right)) c.new-gaps_and_faces.ensures.0
     ∙ ap (λ x. both (gaps_meaning g) (faces_meaning x)) c.new-gaps_and_faces.ensures.1

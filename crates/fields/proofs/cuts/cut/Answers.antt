@@ -1,7 +1,10 @@
-use Rattle.std.proofs.Common.{sym}
-use native.Mathlib.Nat.{sub-zero}
+use Rattle.std.proofs.Common.{sym, ◌∙◌}
 use Rattle.std.proofs.lemmas.List.{take_rest}
+use Rattle.fields.proofs.Cutting.{cut_some, cut_none}
 use Rattle.fields.proofs.cuts.cut.Goals as goal
 
-pub returns-in-Some : goal.returns-in-Some
-returns-in-Some c = rw (take_rest, sub-zero) (sym c.in-Some.ensures.1)
+pub returns-in_err-i : goal.returns-in_err-i
+returns-in_err-i c = rw c.from_residual.ensures (sym (cut_none c.args.mark c.args.text.now (sym c.place.ensures ∙ c.in_err-i.was)))
+
+pub returns : goal.returns
+returns c = rw take_rest (sym (cut_some c.args.mark c.args.text.now c.in_ok-i.i (sym c.place.ensures ∙ c.in_ok-i.was)))

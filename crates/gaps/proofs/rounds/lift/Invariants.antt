@@ -1,8 +1,9 @@
-use Rattle.std.proofs.Common.{drop}
+use Rattle.std.proofs.Common.{◌≡◌, drop}
 use Rattle.rules.specs.Force.{said}
+use Rattle.rules.specs.Rounds.{raised_all}
 use Rattle.sets.specs.Sets.{bits_of}
-use Rattle.gaps.proofs.Lifting.{Lifting}
 use Rattle.gaps.proofs.rounds.lift.Given as goal
 
 abbrev pub invariant-loop-rule : goal.invariant-loop-rule
-invariant-loop-rule l = Lifting l.old l.new l.moved (said (bits_of l.set) (drop l.rule-index l.rules)) (said (bits_of l.set) l.rules)
+invariant-loop-rule l =
+    raised_all (said (bits_of l.set) (drop l.rule-index l.rules)) l.old l.new ≡ raised_all (said (bits_of l.set) l.rules) l.old l.old

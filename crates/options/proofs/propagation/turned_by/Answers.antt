@@ -1,9 +1,17 @@
-use Rattle.std.proofs.Common.{sym, ◌∙◌}
+use Rattle.std.proofs.Common.{◌≡◌, sym, ◌∙◌, rules}
 use Rattle.sets.specs.Masks.{number_of}
+use Rattle.sets.specs.Members.{added}
 use Rattle.sets.specs.Sets.{bits_of}
-use Rattle.options.proofs.Ripening.{unripe}
+use Rattle.options.proofs.Ripening.{turned_unripe, turned_head}
 use Rattle.options.proofs.propagation.turned_by.Goals as goal
 
-pub returns-then-not-is_ripe : goal.returns-then-not-is_ripe
-returns-then-not-is_ripe c =
-    sym (unripe (bits_of c.args.set) c.args.rule.now (number_of c.args.on) (sym c.is_ripe.ensures ∙ c.if-not-is_ripe.true))
+pub returns-in-Some : goal.returns-in-Some
+returns-in-Some c =
+    let says = sym c.is_some.ensures ∙ c.if-is_some.true in
+    let adds : number_of c.with.result ≡ added (number_of c.args.on) c.in-Some.head = search rules in
+    adds
+    ∙ sym (turned_head (bits_of c.args.set) c.args.rule.now (number_of c.args.on) c.in-Some.head (sym c.ripe_head.ensures ∙ c.in-Some.is) (rw c.in_force.ensures at says))
+
+pub returns-in_default-2 : goal.returns-in_default-2
+returns-in_default-2 c =
+    sym (turned_unripe (bits_of c.args.set) c.args.rule.now (number_of c.args.on) (sym c.ripe_head.ensures ∙ c.in_default.is))

@@ -1,11 +1,20 @@
-use Rattle.std.proofs.Common.{sym}
-use Rattle.ticket.specs.declared.reader.Header.{Header}
-use Rattle.ticket.proofs.HeaderLines.{headers_steps, headers_ok}
+use Rattle.std.proofs.lemmas.Result.{err_from_is_err_and}
+use Rattle.ticket.proofs.HeaderLines.{headers_last}
 use Rattle.ticket.proofs.reader.headers.Goals as goal
 
-pub returns : goal.returns
-returns c =
-    let h : Header = record { requests = c.in_ok-requests.requests; checks = c.in_ok-checks.checks; rules = c.in_ok-rules.rules } in
-    let value = headers_steps c.args.room c.args.text.now (c.in_ok-rest.field-0-0, c.in_ok-rest.rest.now) (c.in_ok-requests.requests, c.in_ok-requests.rest.now) (c.in_ok-checks.checks, c.in_ok-checks.rest.now) (c.in_ok-rules.rules, c.in_ok-rules.rest.now) (sym c.in_ok-rest.ensures) (sym c.in_ok-requests.ensures) (sym c.in_ok-checks.ensures) (sym c.in_ok-rules.ensures) (sym c.in_ok-check_room.ensures) in
-    let range = headers_ok c.args.room c.args.text.now (h, c.in_ok-rules.rest.now) value in
-    record { value = sym value; few = range.2 }
+pub returns-in_err-rules-clause-value : goal.returns-in_err-rules-clause-value
+returns-in_err-rules-clause-value c =
+    let q = err_from_is_err_and c.from_residual-in_err-rules.result c.from_residual-in_err-rules.ensures.1 in
+    let last = headers_last c.args.room c.args.text.now _ _ _ _ _ _ c.in_ok-header.ensures c.in_ok-requests.ensures c.in_ok-checks.ensures in
+    rw (q.1, q.2, last, c.in_err-rules.ensures)
+
+pub returns-in_err-check_room-clause-value : goal.returns-in_err-check_room-clause-value
+returns-in_err-check_room-clause-value c =
+    let q = err_from_is_err_and c.from_residual-in_err-check_room.result c.from_residual-in_err-check_room.ensures.1 in
+    let last = headers_last c.args.room c.args.text.now _ _ _ _ _ _ c.in_ok-header.ensures c.in_ok-requests.ensures c.in_ok-checks.ensures in
+    rw (q.1, q.2, last, c.in_ok-rules.ensures.0, ← c.in_err-check_room.ensures)
+
+pub returns-clause-value : goal.returns-clause-value
+returns-clause-value c =
+    let last = headers_last c.args.room c.args.text.now _ _ _ _ _ _ c.in_ok-header.ensures c.in_ok-requests.ensures c.in_ok-checks.ensures in
+    rw (last, c.in_ok-rules.ensures.0, ← c.in_ok-check_room.ensures)

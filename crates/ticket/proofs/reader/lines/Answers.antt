@@ -1,4 +1,4 @@
-use Rattle.std.proofs.Common.{◌≡◌, ℕ, ◌+◌, ◌-◌, List, length, take, Ok, Err, Result, sym, ap, ◌∙◌}
+use Rattle.std.proofs.Common.{◌≡◌, ℕ, ◌+◌, ◌-◌, List, length, take, Ok, Err, Result, sym, ap, ◌∙◌, arith}
 use native.Mathlib.Nat.{sub-zero}
 use Rattle.std.proofs.lemmas.List.{length-take-le}
 use Rattle.std.proofs.lemmas.Result.{err_from_is_err_and}
@@ -17,13 +17,14 @@ last_fault room text h rest p e first second third =
     ∙ ap (λ (r : Result (List Rule × List ℕ) LineFault). r >>= λ q. end_line (h.rules + 5) q.1 >>= λ left. Ok (h, q.0, left)) second
     ∙ ap (λ (r : Result (List ℕ) LineFault). r >>= λ left. Ok (h, p.0, left)) third
 
-pub returns-in_err-rest-2 : goal.returns-in_err-rest-2
-returns-in_err-rest-2 c =
-    let q = err_from_is_err_and c.from_residual-in_err-rest-2.result c.from_residual-in_err-rest-2.ensures.1 in
-    let n = c.in_ok-header.header.rules in
+pub returns-in_err-end : goal.returns-in_err-end
+returns-in_err-end c =
+    let q = err_from_is_err_and c.from_residual-in_err-end.result c.from_residual-in_err-end.ensures.1 in
+    let h = c.in_ok-header.header in
+    let rest = c.in_ok-header.rest in
+    let n = h.rules in
     let long : length (take (n - 0) c.args.rules.now) ≡ n = ap (λ k. length (take k c.args.rules.now)) (sub-zero n) ∙ length-take-le n c.args.rules.now c.in_ok-header.ensures.few in
-    rw (q.1, q.2)
-    (last_fault (length c.args.rules.now) c.args.text.now c.in_ok-header.header c.in_ok-header.rest.now (c.rule_lines.new.rules, c.in_ok-rest.rest.now) c.in_err-rest-2.field-0.0
-    (sym c.in_ok-header.ensures.value)
-    (ap (λ k. rule_lines k c.in_ok-header.header.requests 5 c.in_ok-header.rest.now) (sym long) ∙ c.in_ok-rest.ensures)
-    (sym c.in_err-rest-2.ensures))
+    let rules : rule_lines n h.requests 5 rest.text.now ≡ Ok (c.rule_lines.new.rules, c.rule_lines.new.rest.text.now) = cc (long, c.in_ok-header.ensures.next, c.in_ok-rule_lines.ensures.0) in
+    let line : n + 5 ≡ c.rule_lines.new.rest.line = omega (arith, long, c.in_ok-header.ensures.next, c.in_ok-rule_lines.ensures.1) in
+    let end : end_line (n + 5) c.rule_lines.new.rest.text.now ≡ Err c.in_err-end.field-0.0 = ap (λ l. end_line l c.rule_lines.new.rest.text.now) line ∙ c.in_err-end.ensures in
+    rw (q.1, q.2) (last_fault (length c.args.rules.now) c.args.text.now h rest.text.now (c.rule_lines.new.rules, c.rule_lines.new.rest.text.now) c.in_err-end.field-0.0 (sym c.in_ok-header.ensures.value) rules end)

@@ -1,4 +1,4 @@
-use Rattle.std.proofs.Common.{◌≡◌, ℕ, List, [], ◌++◌, length, drop, replicate, Ok, Err, Result, sym, ap, ◌∙◌, arith, MatchResult}
+use Rattle.std.proofs.Common.{◌≡◌, ℕ, List, [], ◌++◌, length, drop, replicate, Ok, Err, Result, sym, ap, ◌∙◌, MatchResult}
 use Rattle.std.proofs.lemmas.List.{drop-replicate}
 use Rattle.rules.specs.Blank.{blank}
 use Rattle.rules.specs.declared.Rule.{Rule}
@@ -26,6 +26,7 @@ module _ (text : List ℕ) (room : ℕ) (before after : List Rule) (long : lengt
 
 pub returns : goal.returns
 returns c =
-    let long : length c.blank_all.new.rules ≡ length c.args.rules.now = omega arith in
-    let p = settled c.args.text.now (length c.args.rules.now) c.blank_all.new.rules c.read_all.new.rules long c.blank_all.ensures c.read_all.result c.read_all.ensures in
-    record { answer = p.0; list = p.1; exact = exact c.args.text.now (length c.args.rules.now) }
+    let n = length c.args.rules.now in
+    let was : c.fill.new.self ≡ replicate n blank = c.fill.ensures.after (λ _ same. same) ∙ ap (replicate n) c.blank.ensures in
+    let p = settled c.args.text.now n c.fill.new.self c.read_all.new.rules c.fill.ensures.len was c.read_all.result c.read_all.ensures in
+    record { answer = p.0; list = p.1; exact = exact c.args.text.now n }

@@ -3,5 +3,7 @@ use Rattle.ticket.specs.Lines.{rule_lines}
 use Rattle.ticket.proofs.Filling.{behind}
 use Rattle.ticket.proofs.reader.rule_lines.Given as goal
 
-abbrev pub invariant-loop-i : goal.invariant-loop-i
-invariant-loop-i l = behind (take l.i l.rules) (rule_lines (length l.initial.rules - l.i) l.requests (l.i + 5) l.rest) ≡ rule_lines (length l.initial.rules) l.requests 5 l.text
+abbrev pub invariant-loop-place : goal.invariant-loop-place
+invariant-loop-place l =
+    (behind (take l.place-index l.rules) (rule_lines (length l.initial.rules - l.place-index) l.requests l.rest.line l.rest.text.now) ≡ rule_lines (length l.initial.rules) l.requests l.initial.rest.line l.initial.rest.text.now)
+    × (l.rest.line ≡ l.initial.rest.line + l.place-index)

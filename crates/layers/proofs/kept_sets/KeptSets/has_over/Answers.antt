@@ -1,19 +1,12 @@
-use Rattle.std.proofs.Common.{sym, ◌∙◌}
+use Rattle.std.proofs.Common.{◌∙◌, rules, tests}
+use Rattle.std.proofs.lemmas.Iterator.{YieldsList-from_slice}
+use Rattle.std.proofs.lemmas.Iterator.Search.{any_from_yields_List}
 use Rattle.sets.specs.Requests.{part}
-use Rattle.layers.proofs.KeptLists.{any_here, any_later, any_past}
+use Rattle.sets.specs.Sets.{bits_of}
+use Rattle.layers.proofs.KeptLists.{any_of_bits}
 use Rattle.layers.proofs.kept_sets.KeptSets.has_over.Goals as goal
-
-pub returns-then-is_part_of : goal.returns-then-is_part_of
-returns-then-is_part_of c =
-    let xs = c.held-kept-items.result.now in
-    sym (any_here (λ k. part c.args.set.bits k) xs c.loop-kept.kept-index _ c.loop-kept-test.true (sym c.if-is_part_of.ensures)) ∙ c.loop-kept.invariant
-
-pub loop-kept-preserved : goal.loop-kept-preserved
-loop-kept-preserved c =
-    let xs = c.held-kept-items.result.now in
-    sym (any_later (λ k. part c.args.set.bits k) xs c.loop-kept.kept-index _ c.loop-kept-test.true (sym c.if-is_part_of.ensures)) ∙ c.loop-kept.invariant
 
 pub returns : goal.returns
 returns c =
-    let xs = c.held-kept-items.result.now in
-    sym (any_past (λ k. part c.args.set.bits k) xs c.loop-kept.kept-index c.loop-kept-test.false) ∙ c.loop-kept.invariant
+    any_from_yields_List (λ k. part c.args.set.bits (bits_of k)) _ _ _ c.any.ensures.ran (YieldsList-from_slice c.args.self.now.sets.items cc) (λ x b q k. search (rules, tests))
+    ∙ any_of_bits (λ k. part c.args.set.bits k) c.args.self.now.sets.items

@@ -1,5 +1,0 @@
-use Rattle.sets.proofs.Weights.{set_laws}
-use Rattle.sets.proofs.set.set_laws_hold.Goals as goal
-
-pub returns : goal.returns
-returns c = set_laws
