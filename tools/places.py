@@ -89,7 +89,7 @@ for path, name, sign, body in ALL:
 for path, name, sign, body in ALL:
     if re.search(r"\bfn ((bits|number|value|(to|into)_\w+|eq|cmp)\(&?self\b|kind_of\b)", sign):
         note("4", path, name, "a conversion or comparison")
-    for m in re.finditer(r"\w+(?:\([^()]*\)|\.\w+)* as (?:u32|i32|u64)\b", body):
+    for m in re.finditer(r"(?:\w+(?:\([^()]*\)|\.\w+)*|\([^()]*\)) as (?:u32|i32|u64)\b", body):
         note("4", path, name, m.group(0))
     if re.search(r"^ *(Some\(0\) => true|None => true|Ok\(\w+\) => \w+\.fit),", body, re.M):
         note("4", path, name, "equality or order by a match")

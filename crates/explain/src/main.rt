@@ -5,9 +5,10 @@ mod summary;
 
 use std::io::Read;
 use summary::summarize;
+use ticket::LONGEST;
 
 // One byte more than a ticket may have, so that a longer input is seen to be longer.
-const LIMIT: u64 = 16_385;
+const LIMIT: u64 = LONGEST as u64 + 1;
 
 fn run(rt: &HostRuntime) -> anyhow::Result<()> {
     let mut text = Vec::new(rt.alloc());

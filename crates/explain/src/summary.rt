@@ -6,10 +6,9 @@ ghost use Rattle.explain.specs.Summary.{numbers_text, letters_text, accepted_tex
 use rules::{Kind, Rule};
 use std::alloc::{AllocError, Global};
 use std::fmt;
-use ticket::{Header, read};
+use ticket::{Header, MOST_RULES, read};
 
-// The most rules of a ticket.
-const ROOM: usize = 96;
+const ROOM: usize = MOST_RULES as usize;
 
 fn count(rules: &[Rule], kind: Kind) -> usize
     ensures { result ≡ count_of kind rules.now }

@@ -1,12 +1,12 @@
 -- Two sets of requests, and what the definitions make of them. Assumes nothing.
-use Rattle.std.specs.Prelude.{◌≡◌, ℕ, Bool, true, false, List, [], ◌∷◌, Some}
+use Rattle.std.specs.Prelude.{◌≡◌, ℕ, Bool, true, false, List, [], ◌∷◌}
 use Rattle.sets.specs.Masks.{mask}
-use Rattle.rules.specs.declared.Body.TheVariants.{Faces}
+use Rattle.rules.specs.Made as made
 use Rattle.rules.specs.declared.Rule.{Rule}
 use Rattle.faces.specs.Verdict.{fit}
 
 abbrev pub faces_rule : (owner : ℕ) → (odd : Bool) → (faces : ℕ) → Rule
-faces_rule owner odd faces = record { owner = owner; body = Some (Faces odd (record { members = mask faces })) }
+faces_rule owner odd faces = made.faces_rule owner odd (mask faces)
 
 -- of the faces 0, 1 and 2, request 1 wants just one of 0 and 1 at the back, request 2 just one of 1 and 2, and request 3 just one of 0 and 2
 abbrev pub around : List Rule

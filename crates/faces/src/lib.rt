@@ -25,7 +25,7 @@ pub struct Faces<'a> {
 }
 
 impl<'a> Faces<'a> {
-    // The width is cut at 32.
+    // The width is cut at 32. Like `new` of the other two kinds, as the block below.
     pub fn new(rules: &'a [Rule], width: u32) -> Faces<'a>
         ensures { (result.list.rules.now ≡ rules.now) × (result.list.width ≡ min width widest) }
     {
@@ -43,7 +43,8 @@ impl<'a> Faces<'a> {
     }
 }
 
-// Like the blocks of `options` and `gaps`, since the project has an oracle of its own for each kind of rule; what they share is in `rules` and `oracle`.
+// Like the block of `options` and of `gaps`: the project has an oracle of its own for each kind of rule. What else they share is in `rules` and `oracle`.
+// A clause of its own replaces the trait's, so `checked` and `granted` say that again.
 impl<'a> Oracle for Faces<'a> {
     ghost meaning = { λ o. meant o.list.width o.list.rules.now };
 

@@ -21,7 +21,8 @@ fn first(e: u64, q: u32) -> u32
     q + (e >> q).trailing_zeros()
 }
 
-// Equations, each in the row of its first place above 0; a row without one is 0.
+// Equations, each in the row of its first place above 0. A row without one is 0, which is the equation 0 = 0, so that no step asks for it.
+// A table, since a check asks for no memory.
 #[derive(Drop)]
 struct Rows {
     rows: [u64; ROWS],
@@ -61,7 +62,7 @@ impl Rows {
     }
 
     // A choice that all rows hold of, put together from the top.
-    // Counted places and no iterator over the rows: a proof is not told what comes out of `enumerate` and `rev` in a `for`.
+    // By place: tried over the rows, but behind `enumerate` and `rev` together a `for` tells a proof too little. The place is also what is added.
     fn solve(&self) -> u32
         ensures { result ≡ solved 32 self.now.rows 1 / 2 }
     {
@@ -71,6 +72,7 @@ impl Rows {
                 y ^= 1 << q;
             }
         }
+        // By `as`, since 32 places are left, which a proof knows; a `try_from` would ask for a refusal that cannot occur.
         (y / 2) as u32
     }
 }

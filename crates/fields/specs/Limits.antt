@@ -1,11 +1,13 @@
 -- The limits of a ticket's numbers; `Limits` of crate `rules` has those of its rules. Assumes nothing.
 use Rattle.std.specs.Prelude.{ℕ}
+use Rattle.sets.specs.Requests.{widest}
+use Rattle.oracle.specs.Meaning.{limit}
 
 abbrev pub most_requests : ℕ
-most_requests = 32
+most_requests = widest
 
 abbrev pub most_checks : ℕ
-most_checks = 1000000
+most_checks = limit
 
 abbrev pub most_rules : ℕ
 most_rules = 96

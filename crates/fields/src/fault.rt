@@ -27,7 +27,7 @@ pub enum LineFault {
     Field(FieldFault),
 }
 
-// Written out, since std derives no `From`; each `?` between the two needs it.
+// Written out: std derives no `From`, and no contract says what one that `thiserror` derives makes.
 impl From<FieldFault> for LineFault {
     ghost from_gives = { λ e r. r ≡ Field e };
 

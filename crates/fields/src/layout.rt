@@ -2,13 +2,11 @@
 ghost use Rattle.std.specs.Prelude.{◌≡◌};
 ghost use Rattle.fields.specs.Layout.{fewest, most, ends_in_set, numbers as plain_numbers, header_column, rule_column, column as column_of};
 
+use oracle::{LIMIT, WIDEST};
 use rules::{Kind, LAST_FACE, LAST_MARK, LAST_OPTION, MOST_MEMBERS, WIDEST_GAP};
 
-const MOST_REQUESTS: u32 = 32;
-
-const MOST_CHECKS: u32 = 1_000_000;
-
-const MOST_RULES: u32 = 96;
+// The most rules of a ticket; the most requests and checks are those of an oracle.
+pub const MOST_RULES: u32 = 96;
 
 #[derive(Clone, Copy, PartialEq, Eq)]
 pub enum Heading {
@@ -56,8 +54,8 @@ impl Heading {
     {
         match self {
             Heading::Ticket => numbers(1, 1),
-            Heading::Requests => numbers(0, MOST_REQUESTS),
-            Heading::Checks => numbers(0, MOST_CHECKS),
+            Heading::Requests => numbers(0, WIDEST),
+            Heading::Checks => numbers(0, LIMIT),
             Heading::Rules => numbers(0, MOST_RULES),
         }
     }

@@ -10,6 +10,6 @@ mod value;
 
 pub use cuts::cut;
 pub use fault::{FieldFault, Flaw, LineFault};
-pub use layout::{Heading, Sort};
+pub use layout::{Heading, MOST_RULES, Sort};
 pub use line::{Form, MOST};
 pub use value::Value;

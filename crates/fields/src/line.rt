@@ -42,7 +42,7 @@ impl Form {
         }
     }
 
-    // FORM: what each field says.
+    // FORM: what each field says. How a field is written does not hang on the requests, so 0 serves.
     fn formed(self, value: &[u8]) -> Result<ArrayVec<Value, MOST>, FieldFault>
         requires { length (fields_of value.now) ≤ most self.sort }
         ensures { result_map_both (λ v. v.items) (λ e. e) result ≡ forms self.sort self.line 1 (fields_of value.now) }
@@ -58,7 +58,7 @@ impl Form {
         Ok(values)
     }
 
-    // RANGE.
+    // RANGE. A `for` that leaves with the fault: of a `position` the fault would still have to be made.
     fn ranged(self, values: &[Value]) -> Result<(), FieldFault>
         ensures { result ≡ ranges self.sort self.requests self.line values.now }
     {
@@ -71,7 +71,7 @@ impl Form {
         Ok(())
     }
 
-    // ORDER, of a line whose fields from the third on are a set.
+    // ORDER, of a line whose fields from the third on are a set. A `for`, since each number is held to the one before it.
     fn ordered(self, values: &[Value]) -> Result<(), FieldFault>
         ensures { result ≡ orders self.sort self.line values.now }
     {

@@ -3,7 +3,7 @@ ghost use Rattle.std.specs.Prelude.{◌≡◌, ◌<◌, ◌≤◌, length, IfSom
 ghost use Rattle.std.specs.Str.{all_ascii_digits};
 ghost use Rattle.fields.specs.Numbers.{number_after, number as written_number};
 
-// The number that digits write; none where another byte is among them.
+// The number that digits write; none where another byte is among them. A `for` with `?`, so that the bound of the sum is an invariant.
 fn digits(field: &[u8]) -> Option<u32>
     requires { length field.now ≤ 7 }
     ensures value { result ≡ (if all_ascii_digits field.now then Some (number_after 0 field.now) else None) }

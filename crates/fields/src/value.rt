@@ -35,7 +35,7 @@ impl Value {
     {
         match self {
             Value::Dash => true,
-            Value::Plain(n) => column.low <= n && n <= column.high,
+            Value::Plain(n) => (column.low..=column.high).contains(&n),
             Value::Signed(z) => z.unsigned_abs() <= column.high,
         }
     }
@@ -56,11 +56,10 @@ fn head(field: &[u8]) -> Option<Value>
     }
 }
 
-// By `as`, since every number of a field fits; a `try_from` would ask for a refusal that cannot occur. So in `negative`.
 fn unsigned(field: &[u8]) -> Option<Value>
     ensures { result ≡ unsigned (number_of field.now) }
 {
-    number(field).map(|n| Value::Signed(n as i32))
+    number(field).map(|n| Value::Signed(n.cast_signed()))
 }
 
 // The digits after a `-`; 0 has none before it.
@@ -69,7 +68,7 @@ fn negative(digits: &[u8]) -> Option<Value>
 {
     number(digits)
         .filter(|n| *n > 0)
-        .map(|n| Value::Signed(-(n as i32)))
+        .map(|n| Value::Signed(-n.cast_signed()))
 }
 
 fn width(field: &[u8]) -> Option<Value>

@@ -1,11 +1,8 @@
 -- Two rings of gaps, one that is fit and one that is not. Assumes nothing.
-use Rattle.std.specs.Prelude.{◌≡◌, ℕ, true, false, List, [], ◌∷◌, ℤ, pos, negsuc, Some}
-use Rattle.rules.specs.declared.Body.TheVariants.{Gap}
+use Rattle.std.specs.Prelude.{◌≡◌, true, false, List, [], ◌∷◌, pos, negsuc}
+use Rattle.rules.specs.Made.{gap_rule}
 use Rattle.rules.specs.declared.Rule.{Rule}
 use Rattle.gaps.specs.Verdict.{fit}
-
-abbrev pub gap_rule : (owner a b : ℕ) → ℤ → Rule
-gap_rule owner a b w = record { owner = owner; body = Some (Gap a b w) }
 
 -- the house: mark 1 lies 30 or more behind mark 0, and mark 2 lies 20 or more behind mark 1; request 1: mark 2 lies at most 50 behind mark 0;
 -- request 2: at most 49

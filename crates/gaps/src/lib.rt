@@ -14,7 +14,7 @@ ghost use Rattle.rules.proofs.GapsDecided.{gaps_decided};
 ghost use Rattle.rules.specs.declared.Kind.TheVariants as kind;
 
 use oracle::{CheckRefusal, GrantRefusal, Oracle, Verdict, granted, refuse_outside};
-use rounds::settle;
+use rounds::{MARKS, settle};
 use rules::{Rule, RuleList};
 use sets::Set;
 
@@ -25,7 +25,7 @@ pub struct Gaps<'a> {
 }
 
 impl<'a> Gaps<'a> {
-    // The width is cut at 32.
+    // The width is cut at 32. Like `new` of the other two kinds, as the block below.
     pub fn new(rules: &'a [Rule], width: u32) -> Gaps<'a>
         ensures { (result.list.rules.now ≡ rules.now) × (result.list.width ≡ min width widest) }
     {
@@ -35,7 +35,7 @@ impl<'a> Gaps<'a> {
     }
 
     // Places of the marks that serve for a set of requests, or none where no places do.
-    fn find(&self, set: Set) -> Option<[i32; 16]>
+    fn find(&self, set: Set) -> Option<[i32; MARKS]>
         ensures found { Found self.now.list.rules.now (bits_of set) result }
         ensures verdict { is_some result ≡ fit_gaps self.now.list.rules.now (bits_of set) }
     {
@@ -43,7 +43,8 @@ impl<'a> Gaps<'a> {
     }
 }
 
-// Like the blocks of `options` and `faces`, since the project has an oracle of its own for each kind of rule; what they share is in `rules` and `oracle`.
+// Like the block of `options` and of `faces`: the project has an oracle of its own for each kind of rule. What else they share is in `rules` and `oracle`.
+// A clause of its own replaces the trait's, so `checked` and `granted` say that again.
 impl<'a> Oracle for Gaps<'a> {
     ghost meaning = { λ o. meant o.list.width o.list.rules.now };
 

@@ -5,11 +5,11 @@ ghost use Rattle.rules.specs.Force.{said, body_valid};
 ghost use Rattle.rules.specs.Rounds.{Between, raised, raised_all};
 ghost use Rattle.sets.specs.Sets.{bits_of};
 
-use rules::{Body, Kind, Rule};
+use rules::{Body, Kind, LAST_MARK, Rule};
 use sets::Set;
 
 // How many marks there are, and how many rounds at most: a round takes a mark up by 10,000 at most.
-const MARKS: usize = 16;
+pub const MARKS: usize = LAST_MARK as usize + 1;
 
 // Lifts the mark that this rule asks to lie higher by the old places; one that lies there already stays.
 fn raise(body: Body, old: &[i32; MARKS], new: &mut [i32; MARKS])
@@ -41,7 +41,8 @@ fn lift(rules: &[Rule], set: Set, old: &[i32; MARKS]) -> [i32; MARKS]
     new
 }
 
-// Places that serve, found from nought upward, or none where no places do.
+// Places that serve, found from nought upward, or none where no places do. Marks are a table, since a check asks for no memory.
+// Until nothing changes, as `spread` of `options`: one loop over a closure for both would need what each keeps in its contract.
 pub fn settle(rules: &[Rule], set: Set) -> Option<[i32; MARKS]>
     ensures { Found rules.now (bits_of set) result }
 {

@@ -62,7 +62,7 @@ impl<O: Oracle> Cover<O> {
 impl<O: Oracle> Oracle for Cover<O> {
     ghost meaning = { cover_meaning O.meaning };
 
-    // As `Quota`: a layer passes on what it does not change.
+    // Like `width` of `Quota`, since each layer is an oracle of its own.
     fn width(&self) -> u32 {
         self.below.width()
     }

@@ -24,7 +24,7 @@ impl KeptSets {
         }
     }
 
-    // Whether the set is part of a kept one.
+    // Whether the set is part of a kept one. Two functions for two ways round, since one over a closure would be no shorter.
     pub fn has_over(&self, set: Set) -> bool
         ensures { result ≡ under_one (bits_of set) (kept_list self.now) }
     {

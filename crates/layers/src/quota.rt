@@ -33,11 +33,12 @@ impl<O: Oracle> Quota<O> {
 }
 
 impl<O: Oracle> Oracle for Quota<O> {
-    // Not at the head of the file: the struct's ghost fields import all that stands there, and this names the struct.
+    // Here and not above, since this names `Quota`, and what is named above is read before `Quota`, for its ghost fields.
     ghost use Rattle.layers.specs.Meant.{quota_meaning};
 
     ghost meaning = { quota_meaning O.meaning };
 
+    // Like `width` of `Cover`, since each layer is an oracle of its own.
     fn width(&self) -> u32 {
         self.below.width()
     }

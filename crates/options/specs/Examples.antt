@@ -1,12 +1,12 @@
 -- A list of rules on options, with a set that is fit and one that is not. Assumes nothing.
 use Rattle.std.specs.Prelude.{◌≡◌, ℕ, ◌+◌, ◌^◌, true, false, List, [], ◌∷◌, Some, None, Option}
 use Rattle.sets.specs.Masks.{mask}
-use Rattle.rules.specs.declared.Body.TheVariants.{Options}
+use Rattle.rules.specs.Made as made
 use Rattle.rules.specs.declared.Rule.{Rule}
 use Rattle.options.specs.Verdict.{fit}
 
 abbrev options_rule : (owner : ℕ) → Option ℕ → ℕ → Rule
-options_rule owner head s = record { owner = owner; body = Some (Options head (record { members = mask s })) }
+options_rule owner head s = made.options_rule owner head (mask s)
 
 -- request 1 puts option 0 on, which puts option 1 on, and that option 31; request 2 puts option 3 on; the house bars options 3 and 31 together
 abbrev pub chain : List Rule

@@ -81,7 +81,7 @@ impl<'a> Propagation<'a> {
         next
     }
 
-    // What is on when no rule turns more on.
+    // What is on when no rule turns more on. Until nothing changes, as `settle` of `gaps`: one loop over a closure for both would need what each keeps in its contract.
     fn spread(&self) -> Mask
         ensures { number_of result ≡ spread_by most_sweeps (in_force_all self.now) none }
     {

@@ -9,7 +9,7 @@ ghost use Rattle.oracle.specs.Refused.{check_number, check_value, grant_number};
 
 use sets::Set;
 
-// What a check tells of a set: whether all of its requests can be met together.
+// What a check tells of a set: whether all of its requests can be met together. A struct, so that it can tell more one day.
 #[derive(Clone, Copy, PartialEq, Eq, Debug)]
 pub struct Verdict {
     pub fit: bool,
@@ -42,7 +42,7 @@ impl CheckRefusal {
         }
     }
 
-    // The label that is told, if any.
+    // The label that is told, if any: a part of the refusal and not the whole, so no conversion.
     pub fn value(self) -> Option<u8>
         ensures { result ≡ check_value self }
     {

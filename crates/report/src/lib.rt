@@ -19,6 +19,7 @@ const LABEL: u8 = 1;
 pub type Pile<'a> = Quota<Cover<Both<Options<'a>, Both<Gaps<'a>, Faces<'a>>>>>;
 
 // The oracles of a ticket with so many requests and checks: each letter's rules, what was found out, and the number of checks.
+// Rules, width and checks come one by one, as a ticket is read; each oracle makes its `RuleList` of them.
 pub fn pile<'a>(rules: &'a [Rule], width: u32, checks: u32) -> Pile<'a>
     ensures meant { pile_meaning result ≡ piled rules.now width checks }
     ensures exact { PileOf rules.now width checks (pile_meaning result) }

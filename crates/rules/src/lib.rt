@@ -67,6 +67,7 @@ pub enum Body {
     },
 }
 
+// `len` in the word of the definitions.
 fn size(members: Mask) -> u32
     ensures { result ≡ count_of_members (number_of members) }
 {
@@ -80,6 +81,7 @@ fn head_is_valid(head: Option<u32>) -> bool
 }
 
 impl Body {
+    // What kind of rule says this.
     fn kind(self) -> Kind
         ensures { result ≡ kind_of self }
     {
@@ -101,15 +103,13 @@ impl Body {
             Body::Gap { a, b, w } => a <= LAST_MARK
                 && b <= LAST_MARK
                 && w.unsigned_abs() <= WIDEST_GAP,
-            Body::Faces { odd: _, faces } => {
-                let count = size(faces.members);
-                1 <= count && count <= MOST_MEMBERS
-            }
+            Body::Faces { odd: _, faces } => { (1..=MOST_MEMBERS).contains(&size(faces.members)) }
         }
     }
 }
 
 // A rule of the house, owner 0, or of the request that owns it. A blank one has no body and owner 0.
+// The owner is the number that the ticket has, 0 for the house too: an `Option` would have to be turned into it and back.
 #[derive(Clone, Copy, PartialEq, Eq, Debug)]
 pub struct Rule {
     pub owner: u32,
@@ -196,12 +196,14 @@ impl<'a> RuleList<'a> {
         }
     }
 
+    // The list, as it was lent.
     pub fn rules(&self) -> &'a [Rule]
         ensures { result.now ≡ self.now.rules.now }
     {
         self.rules
     }
 
+    // How many requests there are, 32 at most.
     pub fn width(&self) -> u32
         ensures { result ≡ self.now.width }
     {

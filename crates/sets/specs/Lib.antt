@@ -1,3 +1,4 @@
+pub mod Instances
 pub mod Masks
 pub mod Members
 pub mod Requests

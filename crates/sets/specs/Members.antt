@@ -15,10 +15,11 @@ has n i = n / 2 ^ i % 2 == 1
 abbrev pub added : ℕ → ℕ → ℕ
 added n i = cond (nat_lt i places) (bit_or n (2 ^ i)) n
 
--- the same of a set of numbers from the first on, in which i has the place i - first; no number below the first is a member, or taken in
+-- the same of a set of numbers from the first on, in which i has the place i - first; no number below the first is a member
 abbrev pub has_from : (first n i : ℕ) → Bool
 has_from first n i = nat_le first i && has n (i - first)
 
+-- and such a set with i added; no number below the first is taken in
 abbrev pub added_from : (first n i : ℕ) → ℕ
 added_from first n i = cond (nat_le first i) (added n (i - first)) n
 

@@ -2,10 +2,12 @@
 #![tactic(auto)]
 
 ghost use Rattle.std.specs.Prelude.{◌≡◌, count_ones, min};
+ghost use Rattle.sets.specs.Instances.{Instances};
 ghost use Rattle.sets.specs.Members.{has_from, added_from, none};
 ghost use Rattle.sets.specs.Requests.{widest, within, part, everyone};
 ghost use Rattle.sets.specs.SetLaws.{SetLaws};
 
+// A set of numbers from FIRST up to FIRST + 31.
 #[derive(Clone, Copy, PartialEq, Eq, Default, Debug)]
 pub struct Members<const FIRST: u32> {
     bits: u32,
@@ -25,6 +27,7 @@ impl<const FIRST: u32> Members<FIRST> {
         Members { bits }
     }
 
+    // The number that holds the set. Not an `Into`, for the same reason.
     pub fn bits(self) -> u32
         ensures { result ≡ self.entry.bits }
     {
@@ -94,6 +97,11 @@ impl Members<1> {
         width >= 32 || self.bits < 1 << width
     }
 }
+
+// A mask and a set of requests say of a number what they should, as a theorem: see specs/Instances.antt.
+pub fn instances_hold()
+    ensures { Instances }
+{}
 
 // The laws of sets that all else rests on, as a theorem: see specs/SetLaws.antt.
 pub fn set_laws_hold()

@@ -1,9 +1,9 @@
 -- A worked ticket, and what the definitions make of it. Assumes nothing.
 use Rattle.std.specs.Prelude.{◌≡◌, ℕ, List, [], ◌∷◌, Some, None, Ok, codes, Option}
-use Rattle.rules.specs.declared.Body.TheVariants.{Options}
+use Rattle.sets.specs.Masks.{mask}
+use Rattle.rules.specs.Made as made
 use Rattle.rules.specs.declared.Rule.{Rule}
 use Rattle.ticket.specs.Reading.{reading}
-use Rattle.ticket.specs.Ruled.{option_set}
 use Rattle.ticket.specs.Text.{text_of}
 use Rattle.ticket.specs.declared.reader.Header.{Header}
 
@@ -14,7 +14,7 @@ abbrev pub header_a : Header
 header_a = record { requests = 3; checks = 100; rules = 5 }
 
 abbrev pub options_rule : ℕ → Option ℕ → ℕ → Rule
-options_rule owner head s = record { owner = owner; body = Some (Options head (option_set s)) }
+options_rule owner head s = made.options_rule owner head (mask s)
 
 -- options 0 and 1 exclude each other, and so do 1 and 2; request 1 puts option 1 on, 2 option 0, and 3 option 2
 abbrev pub rules_a : List Rule

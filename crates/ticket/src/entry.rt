@@ -65,6 +65,7 @@ const HEADINGS: [Heading; 4] = [
     Heading::Rules,
 ];
 
+// The clauses of the readers below differ in the key that each looks for; a common one would take it as a parameter, and be no shorter.
 impl<'a> Line<'a> {
     // What follows the key, where the line begins with it.
     fn after(self, key: &[u8]) -> Option<&'a [u8]>
@@ -73,6 +74,7 @@ impl<'a> Line<'a> {
         self.text.strip_prefix(key)
     }
 
+    // A letter, the equals sign and the rest: the project has a slice pattern for it.
     fn as_rule(self) -> Option<Entry<'a>>
         ensures { MatchOption result (lettered self.entry.text.now ≡ None) (Says self.entry.number self.entry.text.now) }
     {
@@ -85,11 +87,12 @@ impl<'a> Line<'a> {
         }
     }
 
+    // The key of a header, and the rest.
     fn as_header(self) -> Option<Entry<'a>>
         ensures { MatchOption result ((h : Heading) → following (key_of h) self.entry.text.now ≡ None) (Says self.entry.number self.entry.text.now) }
     {
         let line = self.number;
-        // Leaves with the first key that fits; a `find_map` over a closure in a closure reads no plainer.
+        // Leaves with the first key that fits. Tried as a `find_map`: no shorter, and the check then does not find what it gives.
         for heading in HEADINGS {
             if let Some(value) = self.after(key(heading)) {
                 return Some(Entry::Header {
@@ -102,6 +105,7 @@ impl<'a> Line<'a> {
         None
     }
 
+    // `end=` and the rest.
     fn as_end(self) -> Option<Entry<'a>>
         ensures { MatchOption result (following (codes "end=") self.entry.text.now ≡ None) (Says self.entry.number self.entry.text.now) }
     {
@@ -113,7 +117,7 @@ impl<'a> Line<'a> {
     pub fn entry(self) -> Option<Entry<'a>>
         ensures { MatchOption result (Unknown self.entry.text.now) (Says self.entry.number self.entry.text.now) }
     {
-        // Not `or_else`: of what a closure that captures the line gives, a proof learns nothing.
+        // Not `or_else`: these say their answer by cases, and a closure passes on equations alone.
         self.as_rule().or(self.as_header()).or(self.as_end())
     }
 }

@@ -14,7 +14,7 @@ pub enum TicketFault {
     Tail(usize),
 }
 
-// Written out, since std derives no `From`; each `?` between the two needs it.
+// Written out: std derives no `From`, and no contract says what one that `thiserror` derives makes.
 impl From<LineFault> for TicketFault {
     ghost from_gives = { λ e r. r ≡ Line e };
 

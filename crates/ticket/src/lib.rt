@@ -12,7 +12,8 @@ mod ruled;
 mod tests;
 
 pub use fault::TicketFault;
-pub use reader::{Header, read};
+pub use fields::MOST_RULES;
+pub use reader::{Header, LONGEST, read};
 
 // The definitions read the worked ticket as they should, and write it again.
 pub fn worked_ticket_reads()

@@ -35,6 +35,7 @@ impl Line<'_> {
                     value,
                 },
             ) if found == heading => {
+                // The range of no header hangs on the requests, so 0 serves.
                 let form = Form {
                     sort: Sort::Header(heading),
                     requests: 0,
@@ -47,6 +48,7 @@ impl Line<'_> {
         }
     }
 
+    // The rule, on a ticket of so many requests.
     fn rule(self, requests: u32) -> Result<Rule, LineFault>
         ensures { result ≡ rule_value requests self.entry.number self.entry.text.now }
     {
@@ -62,6 +64,7 @@ impl Line<'_> {
         Ok(rule_of(kind, &values))
     }
 
+    // Nothing, where the line is the end.
     fn end(self) -> Result<(), LineFault>
         ensures { result ≡ end_entry self.entry.number self.entry.text.now }
     {
@@ -81,6 +84,7 @@ pub struct Rest<'a> {
     ghost numbered: { line + length text.now < 2 ^ 64 },
 }
 
+// The readers below say each its own definition of what it reads; a common clause would have to take that as a parameter, and be no shorter.
 impl<'a> Rest<'a> {
     // CUT: the line, up to the next byte 10; what stands after that byte is left.
     fn next_line(&mut self) -> Result<Line<'a>, LineFault>
@@ -93,18 +97,21 @@ impl<'a> Rest<'a> {
         Ok(Line { number, text })
     }
 
+    // The next line, which is to be a header.
     pub fn header(&mut self, heading: Heading) -> Result<u32, LineFault>
         ensures { MatchResult result (λ n. (header_line heading self.old.line self.old.text.now ≡ Ok (n, self.new.text.now)) × (self.new.line ≡ self.old.line + 1)) (λ e. header_line heading self.old.line self.old.text.now ≡ Err e) }
     {
         self.next_line()?.header(heading)
     }
 
+    // The next line, which is to be a rule.
     pub fn rule(&mut self, requests: u32) -> Result<Rule, LineFault>
         ensures { MatchResult result (λ r. (rule_line requests self.old.line self.old.text.now ≡ Ok (r, self.new.text.now)) × (self.new.line ≡ self.old.line + 1)) (λ e. rule_line requests self.old.line self.old.text.now ≡ Err e) }
     {
         self.next_line()?.rule(requests)
     }
 
+    // The next line, which is to be the end.
     pub fn end(&mut self) -> Result<(), LineFault>
         ensures { MatchResult result (λ _. (end_line self.old.line self.old.text.now ≡ Ok self.new.text.now) × (self.new.line ≡ self.old.line + 1)) (λ e. end_line self.old.line self.old.text.now ≡ Err e) }
     {

@@ -21,7 +21,7 @@ pub struct Header {
 }
 
 // The most bytes of a ticket.
-const LONGEST: usize = 16_384;
+pub const LONGEST: usize = 16_384;
 
 // TABLE, of line 4: the list handed over has room for so many rules.
 fn check_room(rules: u32, room: usize) -> Result<(), FieldFault>
@@ -78,7 +78,7 @@ fn lines<'a>(text: &'a [u8], rules: &mut [Rule]) -> Result<(Header, Rest<'a>), L
     Ok((header, rest))
 }
 
-// LONG, every line, and TAIL; what it leaves in the list at a fault is open. Text and list are lent to `read` as two, and so they go through it as two.
+// LONG, every line, and TAIL; what it leaves in the list at a fault is open. The list is the one that is lent to be filled, so it goes beside the text.
 fn read_all(text: &[u8], rules: &mut [Rule]) -> Result<Header, TicketFault>
     ensures { MatchResult result (λ h. (rs : List RuleRecord) × (reading text.now (length rules.old) ≡ Ok (h, rs)) × (rules.new ≡ rs ++ drop (length rs) rules.old)) (λ e. reading text.now (length rules.old) ≡ Err e) }
 {
@@ -92,7 +92,7 @@ fn read_all(text: &[u8], rules: &mut [Rule]) -> Result<Header, TicketFault>
     Ok(header)
 }
 
-// The same from a blank list, so that the entries behind the rules are blank.
+// The same from a blank list, so that the entries behind the rules are blank. Each of the three says of the same `reading` what it adds.
 fn read_afresh(text: &[u8], rules: &mut [Rule]) -> Result<Header, TicketFault>
     ensures answer { result ≡ answer (reading text.now (length rules.old)) }
     ensures list { MatchResult result (λ _. rules.new ≡ padded (length rules.old) (rules_read (reading text.now (length rules.old)))) (λ _. rules_read (reading text.now (length rules.old)) ≡ []) }

@@ -8,7 +8,7 @@ use fields::Value;
 use rules::{Body, FaceSet, Kind, OptionSet, Rule};
 use sets::Mask;
 
-// The value at a place, counted from 0; past the last there is none.
+// The value at a place, counted from 0; past the last there is none, which is what `-` says too.
 pub fn at(values: &[Value], i: usize) -> Value
     ensures { result ≡ slice_index_or values.now i Dash }
 {

@@ -7,7 +7,8 @@ use std::test::Fail;
 
 const MOST: usize = 97;
 
-// Number, line and field of the refusal, given a list of `room` entries; noughts where the text is accepted.
+// Number, line and field of the refusal, given a list of `room` entries; noughts where the text is accepted, so that a case is a text and three numbers.
+// Lists are tables in these tests, since the reader fills a list that is lent to it.
 fn told(text: &[u8], room: usize) -> (u32, usize, usize) {
     let mut rules = [Rule::blank(); MOST];
     let n = room.min(MOST);
@@ -222,9 +223,7 @@ fn long_ticket(
         text.extend_from_slice(b"f=32,1,24,25,26,27,28,29,30,31\n")?;
     }
     text.extend_from_slice(b"end=ticket\n")?;
-    for _ in text.len()..bytes {
-        text.push(b'x')?;
-    }
+    text.resize(bytes.max(text.len()), b'x')?;
     Ok(text)
 }
 

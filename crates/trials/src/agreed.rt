@@ -1,7 +1,6 @@
 // The oracles over rules against exhaustive search, on lists by lot.
-use crate::played::Told;
+use crate::played::wanted;
 use crate::search::{Heeded, Lot};
-use oracle::Verdict;
 use rules::Kind;
 use std::process::Abort;
 
@@ -16,10 +15,7 @@ const SETS: u32 = 8;
 // Whether a set is fit, where the oracle and the search agree.
 fn is_fit(rt: &impl Abort, list: u32, heeded: Heeded<'_>, bits: u32) -> bool {
     let fit = heeded.some_serves(bits);
-    assert_eq!(rt;
-        (list, bits, heeded.told(bits)),
-        (list, bits, Told::from(Verdict { fit }))
-    );
+    assert_eq!(rt; (list, bits, heeded.told(bits)), (list, bits, wanted(fit)));
     fit
 }
 
@@ -34,18 +30,7 @@ fn agree_on(rt: &impl Abort, list: u32, heeded: Heeded<'_>) -> usize {
 fn agree(rt: &impl Abort, kind: Kind, seed: u32) -> usize {
     let mut lot = Lot { state: seed };
     (0..LISTS)
-        .map(|list| {
-            let rules = &lot.list(kind);
-            agree_on(
-                rt,
-                list,
-                Heeded {
-                    kind,
-                    rules,
-                    width: WIDTH,
-                },
-            )
-        })
+        .map(|list| agree_on(rt, list, Heeded::new(kind, &lot.list(kind), WIDTH)))
         .fold(0, usize::saturating_add)
 }
 

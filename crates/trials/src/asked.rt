@@ -7,7 +7,7 @@ use options::Options;
 use rules::Kind;
 
 impl Heeded<'_> {
-    // What the oracle of that kind says of a set. Each arm makes an oracle of another type, so the switch stays.
+    // What the oracle of that kind says of a set. Each arm makes an oracle of another type, so the switch stays: a closure over `&mut dyn Oracle` was tried, and the borrow checker does not cover it yet.
     pub fn told(self, bits: u32) -> Told {
         match self.kind {
             Kind::Options => ask(&mut Options::new(self.rules, self.width), bits),

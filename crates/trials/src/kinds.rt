@@ -1,22 +1,22 @@
-// Lists of rules with known verdicts, for the oracle of each kind.
+// Lists of rules with known verdicts, for the oracle of each kind. `rt` goes along everywhere, since what asserts needs the handle that may abort.
 use crate::made::{faces, options};
 use crate::played::Call::{Check, Grant};
 use crate::played::Told::{Fit, Granted, Refused, Unfit};
-use crate::played::{Step, Told, play};
+use crate::played::{Step, Told, play, wanted};
 use crate::search::Heeded;
 use faces::Faces;
 use gaps::Gaps;
 use options::Options;
-use oracle::{Oracle, Verdict};
+use oracle::Oracle;
 use rules::{Kind, Rule};
 use std::alloc::{AllocError, Global};
 use std::iter::once;
 use std::process::Abort;
 use std::test::Fail;
-use ticket::read;
+use ticket::{MOST_RULES, read};
 
 // The most rules of a ticket.
-const MOST: usize = 96;
+const MOST: usize = MOST_RULES as usize;
 
 // How many requests a ticket has, its rule lines, and sets of the requests, by their numbers, that are fit and that are unfit.
 struct Case(u32, &'static str, &'static [u32], &'static [u32]);
@@ -199,7 +199,7 @@ fn each_set(rt: &impl Abort, heeded: Heeded<'_>, sets: &[u32], fit: bool, lines:
     for bits in sets {
         assert_eq!(rt;
             (*bits, heeded.told(*bits)),
-            (*bits, Told::from(Verdict { fit })),
+            (*bits, wanted(fit)),
             "{lines}"
         );
     }
@@ -207,12 +207,13 @@ fn each_set(rt: &impl Abort, heeded: Heeded<'_>, sets: &[u32], fit: bool, lines:
 
 fn each_case(rt: &impl Abort, kind: Kind, heap: Global, cases: &[Case]) -> Result<(), Fail> {
     for case in cases {
+        // A table, since `read` fills a list that is lent to it.
         let mut rules = [Rule::blank(); MOST];
         let text = ticket_of(heap, case)?;
         let width = read(text.as_bytes(), &mut rules)?.requests;
-        let rules = &rules;
-        each_set(rt, Heeded { kind, rules, width }, case.2, true, case.1);
-        each_set(rt, Heeded { kind, rules, width }, case.3, false, case.1);
+        let heeded = Heeded::new(kind, &rules, width);
+        each_set(rt, heeded, case.2, true, case.1);
+        each_set(rt, heeded, case.3, false, case.1);
     }
     Ok(())
 }
@@ -233,7 +234,7 @@ fn tickets_of_faces(rt: HostRuntime) -> Result<(), Fail> {
     each_case(&rt, Kind::Faces, rt.alloc(), &FACES)
 }
 
-// A list that begins with these rules; the others are blank.
+// A list that begins with these rules; the others are blank, so it is a table that is filled and not one that is collected.
 fn list_of<const N: usize, I: Iterator<Item = Rule> + Drop>(rules: I) -> [Rule; N]
     requires { I.can_next rules }
 {
@@ -246,26 +247,14 @@ fn list_of<const N: usize, I: Iterator<Item = Rule> + Drop>(rules: I) -> [Rule; 
 
 // Whether the sets 0 to 3 of two requests are fit, by the list in either order.
 fn both_ways(rt: &impl Abort, kind: Kind, mut rules: [Rule; MOST], fit: [bool; 4]) {
-    four_sets(rt, two(kind, &rules), fit);
+    four_sets(rt, Heeded::new(kind, &rules, 2), fit);
     rules.reverse();
-    four_sets(rt, two(kind, &rules), fit);
-}
-
-// Of two requests.
-fn two(kind: Kind, rules: &[Rule]) -> Heeded<'_> {
-    Heeded {
-        kind,
-        rules,
-        width: 2,
-    }
+    four_sets(rt, Heeded::new(kind, &rules, 2), fit);
 }
 
 fn four_sets(rt: &impl Abort, heeded: Heeded<'_>, fit: [bool; 4]) {
     for (bits, fit) in (0..4).zip(fit) {
-        assert_eq!(rt;
-            (bits, heeded.told(bits)),
-            (bits, Told::from(Verdict { fit }))
-        );
+        assert_eq!(rt; (bits, heeded.told(bits)), (bits, wanted(fit)));
     }
 }
 
@@ -324,14 +313,9 @@ fn unmet(kind: Kind, owner: u32) -> [Rule; 2] {
     }
 }
 
-// What the oracle says of the one set of a ticket with no request.
+// What the oracle says of the one set of a ticket with no request. Of kind and rules, since it makes the `Heeded` of them; so `all_blank`.
 fn nobody(kind: Kind, rules: &[Rule]) -> Told {
-    let heeded = Heeded {
-        kind,
-        rules,
-        width: 0,
-    };
-    heeded.told(0)
+    Heeded::new(kind, rules, 0).told(0)
 }
 
 // An oracle passes over rules of the other kinds.
@@ -339,7 +323,7 @@ fn heeds(rt: &impl Abort, kind: Kind) {
     for other in KINDS {
         assert_eq!(rt;
             (other, nobody(kind, &unmet(other, 0))),
-            (other, Told::from(Verdict { fit: kind != other }))
+            (other, wanted(kind != other))
         );
     }
 }
@@ -419,11 +403,7 @@ fn widths_above_the_widest(rt: HostRuntime) -> Result<(), Fail> {
 
 // No set of 32 requests is unfit.
 fn all_blank(rt: &impl Abort, kind: Kind, rules: &[Rule]) {
-    let heeded = Heeded {
-        kind,
-        rules,
-        width: 32,
-    };
+    let heeded = Heeded::new(kind, rules, 32);
     assert_eq!(rt; heeded.told(0), Fit);
     assert_eq!(rt; heeded.told(0xffff_ffff), Fit);
 }

@@ -4,13 +4,14 @@ use sets::Set;
 use std::process::Abort;
 use std::test::Fail;
 
+// A call of an oracle. An enum and no closure, since tables of constants hold calls.
 pub enum Call {
     // CHECK of the set with this number.
     Check(u32),
     Grant(u32),
 }
 
-// What an answer is: a verdict or none, or the number of a refusal and the label that it tells; numbers, so that tables can say them as docs/REFUSALS.md does.
+// What an answer is: a verdict or none, or the number of a refusal and the label that it tells, 0 where it tells none: numbers, so that the tables stay short.
 #[derive(Clone, Copy, PartialEq, Eq, Debug)]
 pub enum Told {
     Fit,
@@ -40,6 +41,11 @@ impl From<GrantRefusal> for Told {
     }
 }
 
+// What a test wants; by hand, since the `From` above is part of what is tested.
+pub fn wanted(fit: bool) -> Told {
+    if fit { Told::Fit } else { Told::Unfit }
+}
+
 // What it answers to a check of the set with this number.
 pub fn ask<O: Oracle>(oracle: &mut O, bits: u32) -> Told {
     oracle
@@ -53,6 +59,7 @@ fn grant<O: Oracle>(oracle: &mut O, checks: u32) -> Told {
         .map_or_else(Told::from, |()| Told::Granted)
 }
 
+// A switch, since the steps stand in tables: see `Call`.
 pub fn play<O: Oracle>(rt: &impl Abort, oracle: &mut O, steps: &[Step]) -> Result<(), Fail> {
     for Step(call, told, left) in steps {
         let answer = match call {

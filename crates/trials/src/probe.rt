@@ -16,7 +16,7 @@ pub struct Probe {
     // How many checks are left; none where they are endless.
     pub allowance: Option<u32>,
     pub label: u8,
-    // Whether a check takes one from the allowance, whatever that is.
+    // Whether a check takes one: of the probe, and so no flag of the allowance beside it.
     pub takes: bool,
     ghost narrow: { width ≤ widest },
     ghost counted: { ForSome allowance (λ left. left ≤ limit) },
@@ -71,7 +71,7 @@ impl Probe {
     }
 }
 
-// One with so many checks, and a label. Two makers over one, so that a test names what it wants.
+// One with so many checks, and a label. Two makers over `new`, with its parameters, so that a test names what it wants.
 pub fn counted(width: u32, whole: u32, number: u32, label: u8, takes: bool) -> Probe {
     Probe::new(width, whole, Some(number), label, takes)
 }

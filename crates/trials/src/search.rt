@@ -73,7 +73,12 @@ pub struct Heeded<'a> {
     pub width: u32,
 }
 
-impl Heeded<'_> {
+impl<'a> Heeded<'a> {
+    pub fn new(kind: Kind, rules: &'a [Rule], width: u32) -> Heeded<'a> {
+        Heeded { kind, rules, width }
+    }
+
+    // Whether a choice meets what is in force for the set with this number.
     fn serves(self, choice: u32, bits: u32) -> bool {
         self.rules
             .iter()
