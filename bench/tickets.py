@@ -20,7 +20,7 @@ def options(count, draw):
 
 
 def chain(count):
-    # the longest way: each rule turns on the option before it, in the wrong order of the list
+    # the longest way: a chain through all options, each rule before the one that it waits for
     rules = [f"h=0,{i + 1},{i}" for i in range(30, -1, -1)] + ["h=0,0"]
     return rules + [f"h=0,31,{i % 31},31" for i in range(count - len(rules))]
 

@@ -3,6 +3,7 @@ ghost use Rattle.std.specs.Prelude.{◌≡◌, IfOk, Some, string_bytes};
 ghost use Rattle.rules.specs.Kinds.{count_of};
 ghost use Rattle.explain.specs.Summary.{numbers_text, letters_text, accepted_text, summary_of};
 
+use report::together;
 use rules::{Kind, Rule};
 use std::alloc::{AllocError, Global};
 use std::fmt;
@@ -56,12 +57,13 @@ fn accepted(heap: Global, header: Header, rules: &[Rule]) -> Result<String, Allo
     ensures { IfOk result (λ s. string_bytes s ≡ accepted_text header rules.now) }
 {
     let numbers = Numbers { header };
+    let together = together(rules, header.requests, header.checks);
     let letters = Letters {
         h: count(rules, Kind::Options),
         g: count(rules, Kind::Gaps),
         f: count(rules, Kind::Faces),
     };
-    format!(in heap; "{numbers}{letters}")
+    format!(in heap; "{numbers}together={together}\n{letters}")
 }
 
 pub fn summarize(heap: Global, text: &[u8]) -> Result<String, AllocError>

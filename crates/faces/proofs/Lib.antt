@@ -1,4 +1,2 @@
-pub mod Entering
+pub mod Adding
 pub mod Following
-pub mod Trailing
-pub mod Turning

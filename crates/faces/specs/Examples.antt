@@ -1,10 +1,11 @@
--- Two sets of requests, and what the definitions make of them. Assumes nothing.
+-- Three rules of faces, with sets of requests that are fit and one that is not. Assumes nothing.
 use Rattle.std.specs.Prelude.{◌≡◌, ℕ, Bool, true, false, List, [], ◌∷◌}
 use Rattle.sets.specs.Masks.{mask}
 use Rattle.rules.specs.Made as made
 use Rattle.rules.specs.declared.Rule.{Rule}
 use Rattle.faces.specs.Verdict.{fit}
 
+-- a rule of faces, by the number of its set
 abbrev pub faces_rule : (owner : ℕ) → (odd : Bool) → (faces : ℕ) → Rule
 faces_rule owner odd faces = made.faces_rule owner odd (mask faces)
 

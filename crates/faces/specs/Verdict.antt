@@ -3,8 +3,7 @@ use Rattle.std.specs.Prelude.{ℕ, Bool, List, Option}
 use Rattle.std.specs.Option.{option_map}
 use Rattle.sets.specs.Masks.{number_of}
 use Rattle.oracle.specs.Meaning.{Meaning}
-use Rattle.rules.specs.Choices.{Choice}
-use Rattle.rules.specs.Elimination.{choice_back}
+use Rattle.rules.specs.Choices.{Choice, choice_back}
 use Rattle.rules.specs.Found.{fit_by, meant_by, FoundBy}
 use Rattle.rules.specs.declared.FaceSet.{FaceSet}
 use Rattle.rules.specs.declared.Kind.TheVariants as kind

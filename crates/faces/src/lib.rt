@@ -1,7 +1,7 @@
 // The rules of faces: whether some faces at the back meet all that are in force.
 #![tactic(auto)]
 
-mod rows;
+mod sums;
 
 ghost use Rattle.std.specs.Prelude.{◌≡◌, min, is_some};
 ghost use Rattle.sets.specs.Requests.{widest};
@@ -14,9 +14,9 @@ ghost use Rattle.rules.proofs.Fewer.{rule_lawful};
 ghost use Rattle.rules.specs.declared.Kind.TheVariants as kind;
 
 use oracle::{CheckRefusal, GrantRefusal, Oracle, Verdict, granted, refuse_outside};
-use rows::back;
 use rules::{FaceSet, Rule, RuleList};
 use sets::Set;
+use sums::back;
 
 // The rules of faces of a list; rules of other kinds are passed over.
 #[derive(Drop)]

@@ -13,6 +13,7 @@ flaw_number Range = 6
 flaw_number Order = 7
 flaw_number Table = 8
 
+-- number, line and field of a fault of a field
 abbrev pub told_field : FieldFault → ℕ × ℕ × ℕ
 told_field f = (flaw_number f.flaw, f.line, f.field)
 

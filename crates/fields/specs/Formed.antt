@@ -52,10 +52,11 @@ abbrev pub without : Flaw → (line : ℕ) → Option ℕ → Result (Unit {0}) 
 without w line None = Ok tt
 without w line (Some i) = Err (at_field w line i)
 
--- RANGE and ORDER as tests of a line
+-- RANGE, as a test of a line
 abbrev pub ranged : Sort → (requests line : ℕ) → List Value → Result (Unit {0}) FieldFault
 ranged s requests line vs = without Range line (first_outside s requests 1 vs)
 
+-- ORDER, as a test of the lines that end in a set
 abbrev pub ordered : Sort → (line : ℕ) → List Value → Result (Unit {0}) FieldFault
 ordered s line vs = cond (ends_in_set s) (without Order line (first_unrisen None 3 (drop 2 vs))) (Ok tt)
 

@@ -20,6 +20,7 @@ fewest (Rule Options) = 2
 fewest (Rule Gaps) = 4
 fewest (Rule Faces) = 3
 
+-- the most fields that a line may have
 abbrev pub most : Sort → ℕ
 most (Header h) = 1
 most (Rule Options) = 2 + most_members

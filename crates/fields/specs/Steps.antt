@@ -3,6 +3,7 @@ use Rattle.std.specs.Prelude.{Some, None, Ok, Err, Option, Result}
 use Rattle.fields.specs.declared.fault.LineFault.{LineFault}
 
 infixl 20 ◌>>=◌
+-- the next step, if this one went well
 abbrev pub ◌>>=◌ : {A B E : Type 0} → Result A E → (A → Result B E) → Result B E
 Ok x >>= next = next x
 Err e >>= next = Err e

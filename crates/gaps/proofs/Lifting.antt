@@ -3,7 +3,8 @@ use Rattle.std.proofs.Common.{◌≡◌, ℕ, true, false, cond, List, set, ℤ,
 use Rattle.std.specs.Int.{int_max}
 use lib.Signed.{lt_z}
 use Rattle.std.proofs.lemmas.List.{set-get_or}
-use Rattle.rules.specs.Rounds.{place, lifted}
+use Rattle.rules.specs.Choices.{place}
+use Rattle.rules.specs.Rounds.{lifted}
 
 pub lifted_max : (b : ℕ) (to : ℤ) (ps : List ℤ) → set ps b (int_max to (place ps b)) ≡ lifted b to ps
 lifted_max b to ps =

@@ -2,8 +2,8 @@
 use Rattle.std.specs.Prelude.{ℕ, Bool, List, ℤ, Option}
 use Rattle.std.specs.Option.{option_map}
 use Rattle.oracle.specs.Meaning.{Meaning}
+use Rattle.rules.specs.Choices.{placed}
 use Rattle.rules.specs.Found.{fit_by, meant_by, FoundBy}
-use Rattle.rules.specs.Rounds.{placed}
 use Rattle.rules.specs.declared.Kind.TheVariants as kind
 use Rattle.rules.specs.declared.Rule.{Rule}
 use Rattle.rules.proofs.GapsDecided.{gaps_decided}

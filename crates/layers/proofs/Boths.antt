@@ -1,5 +1,5 @@
 -- Both is an oracle: from what it asks of its sides, what it answers and leaves. Assumes nothing.
-use Rattle.std.specs.Prelude.{◌≡◌, ℕ, ◌^◌, min, true, false, cond, not, ◌&&◌, ◌||◌, Ok, Err, Result}
+use Rattle.std.specs.Prelude.{◌≡◌, ℕ, ◌^◌, min, true, false, cond, not, ◌&&◌, ◌||◌, None, Ok, Err, Result, refl}
 use Rattle.std.proofs.Common.{inl, inr, sym, ap, subst, ◌∙◌}
 use Rattle.std.proofs.lemmas.Bool.{cases_Bool, cond-true, cond-false, and_parts, ltb-true, lt-ltb, not-true}
 use Rattle.sets.specs.Requests.{within}
@@ -7,7 +7,7 @@ use Rattle.oracle.specs.Asking.{nought, verdict, check_answer, Taken, Checked, g
 use Rattle.oracle.specs.Meaning.{Meaning, Kept, Unchanged}
 use Rattle.oracle.specs.declared.CheckRefusal.TheVariants.{Outside, Spent}
 use Rattle.oracle.specs.declared.GrantRefusal.{GrantRefusal}
-use Rattle.oracle.proofs.Checks.{spent, answered, answer_outside, answer_spent, answer_fit, checked_as, left_as, unchanged, kept}
+use Rattle.oracle.proofs.Checks.{spent, answered, answer_outside, answer_spent, answer_fit, checked_as, left_as, unchanged, kept, taken_loose}
 use Rattle.layers.specs.Asked.{Answer, says_fit, InTurn, BothAsked, BothChecked}
 use Rattle.layers.specs.Layered.{lesser, both}
 use Rattle.layers.specs.Meant.{both_meaning}
@@ -21,6 +21,7 @@ kept_both l l' r r' kl kr = (
   λ s near.
       let close = within_both l.width r.width s near in
       ap (λ b. b && r'.fit s) (kl.1 s close.0) ∙ ap (λ b. l.fit s && b) (kr.1 s close.1),
+  refl,
 )
 
 unchanged_both : (l l' r r' : Meaning) → Unchanged l l' → Unchanged r r' → Unchanged (both l r) (both l' r')
@@ -69,23 +70,23 @@ module _ (l r l' r' : Meaning) (s : ℕ) (answer : Answer) where
 
   -- where neither has nought, Both answers
   both_answers : within (both l r).width s ≡ true → nought l.allowance ≡ false → nought r.allowance ≡ false → answer ≡ Ok (verdict (l.fit s && r.fit s))
-      → Kept l l' → Taken l.allowance l'.allowance → Kept r r' → Taken r.allowance r'.allowance → Checked (both l r) s answer (both l' r')
+      → Kept l l' → Taken None l.allowance l'.allowance → Kept r r' → Taken None r.allowance r'.allowance → Checked (both l r) s answer (both l' r')
   both_answers near some-l some_r told kl tl kr tr =
       checked_as (both l r) (both l' r') s answer (answered (both l r) s) told
       (sym (answer_fit (both l r) s near (nought_right l r some-l ∙ some_r)))
       (kept_both l l' r r' kl kr, taken_lesser l.allowance l'.allowance r.allowance r'.allowance tl tr)
 
   both_asked_right : within (both l r).width s ≡ true → nought l.allowance ≡ false → nought r.allowance ≡ false → l.fit s ≡ true
-      → Kept l l' → Taken l.allowance l'.allowance → Checked r s answer r' → Checked (both l r) s answer (both l' r')
+      → Kept l l' → Taken None l.allowance l'.allowance → Checked r s answer r' → Checked (both l r) s answer (both l' r')
   both_asked_right near some-l some_r fit kl tl right =
       let told = left_as r r' s answer (answered r s) right (answer_fit r s (near_both l r s near).1 some_r) in
-      both_answers near some-l some_r (told.0 ∙ ap (λ b. Ok (verdict (b && r.fit s))) (sym fit)) kl tl told.1.0 told.1.1
+      both_answers near some-l some_r (told.0 ∙ ap (λ b. Ok (verdict (b && r.fit s))) (sym fit)) kl tl told.1.0 (taken_loose r.counted_by r.allowance r'.allowance told.1.1)
 
   both_asked_left : within (both l r).width s ≡ true → nought l.allowance ≡ false → nought r.allowance ≡ false → l.fit s ≡ false
-      → Kept l l' → Taken l.allowance l'.allowance → answer ≡ answered l s → r' ≡ r → Checked (both l r) s answer (both l' r')
+      → Kept l l' → Taken None l.allowance l'.allowance → answer ≡ answered l s → r' ≡ r → Checked (both l r) s answer (both l' r')
   both_asked_left near some-l some_r unfit kl tl told same =
-      let P : Meaning → Type 0 = λ n. Kept r n × Taken r.allowance n.allowance in
-      let right : Kept r r' × Taken r.allowance r'.allowance = subst P (sym same) (kept r, taken_none r.allowance) in
+      let P : Meaning → Type 0 = λ n. Kept r n × Taken None r.allowance n.allowance in
+      let right : Kept r r' × Taken None r.allowance r'.allowance = subst P (sym same) (kept r, taken_none r.allowance) in
       both_answers near some-l some_r (told ∙ ap (λ b. Ok (verdict b)) unfit ∙ ap (λ b. Ok (verdict (b && r.fit s))) (sym unfit)) kl tl right.0 right.1
 
   -- the left was asked first
@@ -105,11 +106,11 @@ module _ (l r l' r' : Meaning) (s : ℕ) (answer : Answer) where
               | inl fit ↦
                   let last = turn.0 (ap says_fit due ∙ fit) in
                   let told = left_as l l' s (check_answer l s) (answered l s) last.0 due in
-                  both_asked_right near some some_r fit told.1.0 told.1.1 last.1
+                  both_asked_right near some some_r fit told.1.0 (taken_loose l.counted_by l.allowance l'.allowance told.1.1) last.1
               | inr unfit ↦
                   let last = turn.1 (ap says_fit due ∙ unfit) in
                   let told = left_as l l' s answer (answered l s) last.0 due in
-                  both_asked_left near some some_r unfit told.1.0 told.1.1 told.0 last.1
+                  both_asked_left near some some_r unfit told.1.0 (taken_loose l.counted_by l.allowance l'.allowance told.1.1) told.0 last.1
             ]
       ]
 

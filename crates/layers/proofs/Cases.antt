@@ -20,7 +20,7 @@ less_one : (a b : ℕ) → (min a b ≡ min a (suc b)) ⊎ (suc (min a b) ≡ mi
 less_one a b = elim (cases_lt b a) [ inl above ↦ inr (omega arith) | inr below ↦ inl (omega arith) ]
 
 -- where each of two allowances is taken from or not, so is the smaller one
-pub taken_lesser : (a a' b b' : Option ℕ) → Taken a a' → Taken b b' → Taken (lesser a b) (lesser a' b')
+pub taken_lesser : (a a' b b' : Option ℕ) → Taken None a a' → Taken None b b' → Taken None (lesser a b) (lesser a' b')
 taken_lesser None None b b' ta tb = tb
 taken_lesser None (Some a') b b' ta tb = absurd ta
 taken_lesser (Some a) None b b' ta tb = absurd ta
@@ -32,7 +32,7 @@ taken_lesser (Some a) (Some a') (Some b) (Some b') (inl x) (inr y) = elim (less_
 taken_lesser (Some a) (Some a') (Some b) (Some b') (inr x) (inl y) = elim (less_one b a') [ inl e ↦ inl (omega arith) | inr e ↦ inr (omega arith) ]
 taken_lesser (Some a) (Some a') (Some b) (Some b') (inr x) (inr y) = inr (omega arith)
 
-pub taken_none : (a : Option ℕ) → Taken a a
+pub taken_none : (a : Option ℕ) → Taken None a a
 taken_none None = tt
 taken_none (Some n) = inl refl
 

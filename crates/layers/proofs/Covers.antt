@@ -9,7 +9,7 @@ use Rattle.sets.proofs.Parts.{part_true}
 use Rattle.oracle.specs.Asking.{nought, verdict, check_answer, AfterCheck, Checked}
 use Rattle.oracle.specs.Meaning.{Meaning, Lawful, Kept}
 use Rattle.oracle.specs.declared.CheckRefusal.TheVariants.{Outside}
-use Rattle.oracle.proofs.Checks.{spent, answered, answer_outside, answer_spent, answer_fit, checked_as, left_as, unchanged, kept}
+use Rattle.oracle.proofs.Checks.{spent, answered, answer_outside, answer_spent, answer_fit, checked_as, left_as, unchanged, kept, taken_loose}
 use Rattle.layers.specs.Asked.{Answer, most_kept, fits_after, unfits_after, CoverAsked, deciding, CoverChecked}
 use Rattle.layers.specs.Layered.{under_one, over_one, known, or_below, cover}
 use Rattle.layers.specs.Listed.{kept_list}
@@ -22,7 +22,7 @@ module _ (fits unfits : List ℕ) (m : Meaning) where
   -- the oracle below may change, and what is kept may grow, if the verdicts stay
   cover_kept : (fits' unfits' : List ℕ) (m' : Meaning) → Kept m m' → ((x : ℕ) → Within m.width x → (cover fits' unfits' m).fit x ≡ (cover fits unfits m).fit x)
       → Kept (cover fits unfits m) (cover fits' unfits' m')
-  cover_kept fits' unfits' m' k same = (k.0, λ x close. ap (or_below (known fits' unfits' x)) (k.1 x close) ∙ same x close)
+  cover_kept fits' unfits' m' k same = (k.0, λ x close. ap (or_below (known fits' unfits' x)) (k.1 x close) ∙ same x close, refl)
 
 -- a test of one more
 any_end : (test : ℕ → Bool) (ks : List ℕ) (s : ℕ) → list_any test (ks ++ (s ∷ [])) ≡ (list_any test ks || test s)
@@ -116,7 +116,7 @@ module _ (fits unfits : List ℕ) (m : Meaning) (s : ℕ) (answer : Answer) (fit
         (sym (answer_fit (cover fits unfits m) s near some ∙ ap (λ b. Ok (verdict b)) same)) (
           cover_kept fits unfits m (fits_after (answered m s) s fits) (unfits_after (answered m s) s unfits) m' told.1.0
               (learned fits unfits m law s (ltb-true s (2 ^ m.width) near) (m.fit s) refl new.1),
-          told.1.1,
+          taken_loose m.counted_by m.allowance m'.allowance told.1.1,
         )
         (asked.1 ∙ ap (λ a. fits_after a s fits) told.0) (asked.2 ∙ ap (λ a. unfits_after a s unfits) told.0)
 

@@ -12,6 +12,7 @@ use Rattle.layers.specs.Layered.{known}
 abbrev pub If : Bool → Type 0 → Type 0 → Type 0
 If b A B = (b ≡ true → A) × (b ≡ false → B)
 
+-- what CHECK answers
 abbrev pub Answer : Type 0
 Answer = Result Verdict CheckRefusal
 
@@ -49,6 +50,7 @@ abbrev pub QuotaAsked : (number label : ℕ) → Meaning → ℕ → Answer → 
 QuotaAsked zero label m s answer number' m' = (answer ≡ Err (Spent label)) × (number' ≡ zero) × (m' ≡ m)
 QuotaAsked (suc n) label m s answer number' m' = Checked m s answer m' × (number' ≡ one_less answer (suc n))
 
+-- Quota: a set outside the width is refused, and nothing changes
 abbrev pub QuotaChecked : (number label : ℕ) → Meaning → ℕ → Answer → (number' : ℕ) → Meaning → Type 0
 QuotaChecked number label m s answer number' m' =
     If (within m.width s) (QuotaAsked number label m s answer number' m') ((answer ≡ Err Outside) × (number' ≡ number) × (m' ≡ m))
@@ -65,11 +67,12 @@ most_kept = 64
 abbrev pub kept_one : ℕ → List ℕ → List ℕ
 kept_one s ks = cond (nat_lt (length ks) most_kept) (ks ++ (s ∷ [])) ks
 
--- Cover: what is kept after an answer from below
+-- Cover: the fit sets that are kept after an answer from below
 abbrev pub fits_after : Answer → ℕ → List ℕ → List ℕ
 fits_after (Ok v) s fits = cond v.fit (kept_one s fits) fits
 fits_after (Err e) s fits = fits
 
+-- and the unfit sets
 abbrev pub unfits_after : Answer → ℕ → List ℕ → List ℕ
 unfits_after (Ok v) s unfits = cond v.fit unfits (kept_one s unfits)
 unfits_after (Err e) s unfits = unfits
@@ -83,6 +86,7 @@ CoverAsked None fits unfits m s answer fits' unfits' m' = Checked m s answer m' 
 abbrev pub deciding : (fits unfits : List ℕ) → Meaning → ℕ → Option Bool
 deciding fits unfits m s = cond (nought m.allowance) None (known fits unfits s)
 
+-- Cover: a set outside the width is refused, and nothing changes
 abbrev pub CoverChecked : (fits unfits : List ℕ) → Meaning → ℕ → Answer → (fits' unfits' : List ℕ) → Meaning → Type 0
 CoverChecked fits unfits m s answer fits' unfits' m' =
     If (within m.width s) (CoverAsked (deciding fits unfits m s) fits unfits m s answer fits' unfits' m') ((answer ≡ Err Outside) × (fits' ≡ fits) × (unfits' ≡ unfits) × (m' ≡ m))

@@ -1,14 +1,15 @@
 -- That the layers keep the law of an oracle, from what is below; cited where each says what it means. Assumes nothing.
-use Rattle.std.specs.Prelude.{◌≡◌, ℕ, ◌≤◌, min, Bool, true, false, cond, not, ◌&&◌, ◌||◌, List, [], ◌∷◌, Some, None, Option, refl}
+use Rattle.std.specs.Prelude.{◌≡◌, ℕ, zero, suc, ◌≤◌, min, Bool, true, false, cond, not, ◌&&◌, ◌||◌, List, [], ◌∷◌, Some, None, Option, refl}
 use Rattle.std.specs.List.{list_any}
 use Rattle.std.proofs.Common.{inl, inr, sym, ◌∙◌, lt_of_lt_of_le, arith, pow_mono}
 use Rattle.std.proofs.lemmas.Bool.{cases_Bool, cond_both, or_cases, or_left, or_right, and_parts, and_from, not-true, not_from_false, both_ways}
 use Rattle.sets.specs.Requests.{Within, Part, part}
 use Rattle.sets.proofs.Parts.{part_trans, part_true, true_part}
 use Rattle.oracle.specs.Asking.{nought}
-use Rattle.oracle.specs.Meaning.{Meaning, limit, last_label, Counted, Lawful}
-use Rattle.layers.specs.Layered.{lesser, both, quota, under_one, over_one, or_below, cover}
+use Rattle.oracle.specs.Meaning.{Meaning, limit, last_label, Counted, Told, Lawful}
+use Rattle.layers.specs.Layered.{lesser, both, counting, quota, under_one, over_one, or_below, cover}
 
+-- of two counts the smaller is one
 pub counted_lesser : (a b : Option ℕ) → Counted a → Counted b → Counted (lesser a b)
 counted_lesser None b ca cb = cb
 counted_lesser (Some a) None ca cb = ca
@@ -18,11 +19,13 @@ counted_lesser (Some a) (Some b) ca cb = omega arith
 pub within_both : (a b s : ℕ) → Within (min a b) s → Within a s × Within b s
 within_both a b s near = (lt_of_lt_of_le near (pow_mono (omega arith)), lt_of_lt_of_le near (pow_mono (omega arith)))
 
+-- Both keeps the law of an oracle
 pub both_lawful : (l r : Meaning) → Lawful l → Lawful r → Lawful (both l r)
 both_lawful l r ll lr = record {
   narrow = omega (arith, ll.narrow);
   counted = counted_lesser l.allowance r.allowance ll.counted lr.counted;
   labelled = cond_both (nought l.allowance) l.label r.label (λ x. x ≤ last_label) (λ e. ll.labelled) (λ e. lr.labelled);
+  told = tt;
   downward = λ t s near part fit.
       let two = and_parts (l.fit s) (r.fit s) fit in
       let close = within_both l.width r.width s near in
@@ -31,11 +34,19 @@ both_lawful l r ll lr = record {
       (lr.downward t s close.1 part two.1);
 }
 
+-- where Quota counts each answered check, its own number is nought when nothing is left
+counting_told : (number label other : ℕ) (a : Option ℕ) → Told (counting label a) (lesser (Some number) a) (cond (nought (Some number)) label other)
+counting_told zero label other None = refl
+counting_told (suc n) label other None = tt
+counting_told number label other (Some n) = tt
+
+-- so does Quota
 pub quota_lawful : (number label : ℕ) (m : Meaning) → number ≤ limit → label ≤ last_label → Lawful m → Lawful (quota number label m)
 quota_lawful number label m counted labelled law = record {
   narrow = law.narrow;
   counted = counted_lesser (Some number) m.allowance counted law.counted;
   labelled = cond_both (nought (Some number)) label m.label (λ x. x ≤ last_label) (λ e. labelled) (λ e. law.labelled);
+  told = counting_told number label m.label m.allowance;
   downward = law.downward;
 }
 
@@ -48,10 +59,11 @@ any_more f g less (k ∷ ks) holds =
       | inr later ↦ or_right (g k) (list_any g ks) (any_more f g less ks later)
     ]
 
--- a part of a set that is under one is under it, and a set with a part that is over one is over it
+-- a part of a set that is under one is under it
 pub under_part : (t s : ℕ) (ks : List ℕ) → Part t s → under_one s ks ≡ true → under_one t ks ≡ true
 under_part t s ks p = any_more (λ k. part s k) (λ k. part t k) (λ k h. true_part t k (part_trans t s k p (part_true s k h))) ks
 
+-- and a set with a part that is over one is over it
 pub over_part : (t s : ℕ) (ks : List ℕ) → Part t s → over_one t ks ≡ true → over_one s ks ≡ true
 over_part t s ks p = any_more (λ k. part k t) (λ k. part k s) (λ k h. true_part k s (part_trans k t s (part_true k t h) p)) ks
 
@@ -65,14 +77,17 @@ said false false below = refl
 pub over_none : (t s : ℕ) (ks : List ℕ) → Part t s → over_one s ks ≡ false → over_one t ks ≡ false
 over_none t s ks p none = elim (cases_Bool (over_one t ks)) [ inl over ↦ absurd (both_ways (over_one s ks) none (over_part t s ks p over)) | inr e ↦ e ]
 
+-- the verdict of Cover as one test
 pub cover_said : (fits unfits : List ℕ) (m : Meaning) (s : ℕ) → (cover fits unfits m).fit s ≡ (under_one s fits || (not (over_one s unfits) && m.fit s))
 cover_said fits unfits m s = said (under_one s fits) (over_one s unfits) (m.fit s)
 
+-- Cover keeps the law of an oracle
 pub cover_lawful : (fits unfits : List ℕ) (m : Meaning) → Lawful m → Lawful (cover fits unfits m)
 cover_lawful fits unfits m law = record {
   narrow = law.narrow;
   counted = law.counted;
   labelled = law.labelled;
+  told = tt;
   downward = λ t s near p fit.
       cover_said fits unfits m t ∙ elim (or_cases (under_one s fits) (not (over_one s unfits) && m.fit s) (sym (cover_said fits unfits m s) ∙ fit)) [
         | inl under ↦ or_left (under_one t fits) (not (over_one t unfits) && m.fit t) (under_part t s fits p under)

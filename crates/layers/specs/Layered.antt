@@ -18,7 +18,13 @@ both l r = record {
   fit = λ s. l.fit s && r.fit s;
   allowance = lesser l.allowance r.allowance;
   label = cond (nought l.allowance) l.label r.label;
+  counted_by = None;
 }
+
+-- Quota: each answered check is counted by its label where those below are endless; otherwise that is open
+abbrev pub counting : (label : ℕ) → Option ℕ → Option ℕ
+counting label None = Some label
+counting label (Some n) = None
 
 -- Quota: a number of its own above what is below; the label is its own if its number is nought, otherwise that below
 abbrev pub quota : (number label : ℕ) → Meaning → Meaning
@@ -27,6 +33,7 @@ quota number label m = record {
   fit = m.fit;
   allowance = lesser (Some number) m.allowance;
   label = cond (nought (Some number)) label m.label;
+  counted_by = counting label m.allowance;
 }
 
 -- whether a set is part of one of those kept
@@ -41,6 +48,7 @@ over_one s ks = list_any (λ k. part k s) ks
 abbrev pub known : (fits unfits : List ℕ) → ℕ → Option Bool
 known fits unfits s = cond (under_one s fits) (Some true) (cond (over_one s unfits) (Some false) None)
 
+-- the verdict, if one is decided, and otherwise the one below
 abbrev pub or_below : Option Bool → Bool → Bool
 or_below (Some v) w = v
 or_below None w = w
@@ -52,4 +60,5 @@ cover fits unfits m = record {
   fit = λ s. or_below (known fits unfits s) (m.fit s);
   allowance = m.allowance;
   label = m.label;
+  counted_by = None;
 }

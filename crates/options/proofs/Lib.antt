@@ -1,3 +1,3 @@
 pub mod Finding
-pub mod Ripening
+pub mod TurnedOn
 pub mod Turns

@@ -1,10 +1,11 @@
--- A list of rules on options, with a set that is fit and one that is not. Assumes nothing.
+-- A list of rules on options, with two sets that are fit and one that is not. Assumes nothing.
 use Rattle.std.specs.Prelude.{◌≡◌, ℕ, ◌+◌, ◌^◌, true, false, List, [], ◌∷◌, Some, None, Option}
 use Rattle.sets.specs.Masks.{mask}
 use Rattle.rules.specs.Made as made
 use Rattle.rules.specs.declared.Rule.{Rule}
 use Rattle.options.specs.Verdict.{fit}
 
+-- a rule of options, by the number of its set
 abbrev options_rule : (owner : ℕ) → Option ℕ → ℕ → Rule
 options_rule owner head s = made.options_rule owner head (mask s)
 

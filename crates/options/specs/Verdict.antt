@@ -3,9 +3,8 @@ use Rattle.std.specs.Prelude.{ℕ, Bool, List, Option}
 use Rattle.std.specs.Option.{option_map}
 use Rattle.sets.specs.Masks.{number_of}
 use Rattle.oracle.specs.Meaning.{Meaning}
-use Rattle.rules.specs.Choices.{Choice}
+use Rattle.rules.specs.Choices.{Choice, choice_on}
 use Rattle.rules.specs.Found.{fit_by, meant_by, FoundBy}
-use Rattle.rules.specs.Propagation.{choice_on}
 use Rattle.rules.specs.declared.Kind.TheVariants as kind
 use Rattle.rules.specs.declared.OptionSet.{OptionSet}
 use Rattle.rules.specs.declared.Rule.{Rule}
@@ -19,6 +18,7 @@ fit = fit_by kind.Options options_decided
 abbrev pub meant : (width : ℕ) → List Rule → Meaning
 meant = meant_by kind.Options options_decided
 
+-- the number of a set of options
 abbrev pub options_of : OptionSet → ℕ
 options_of on = number_of on.members
 

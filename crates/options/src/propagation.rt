@@ -6,17 +6,17 @@ ghost use Rattle.sets.specs.Members.{none};
 ghost use Rattle.sets.specs.Sets.{bits_of};
 ghost use Rattle.rules.specs.Force.{in_force};
 ghost use Rattle.rules.specs.Propagation.{turned_if, sweep as swept, spread as spread_by, most_sweeps, bars_if, barred, least as least_of};
-ghost use Rattle.options.specs.Propagating.{ripe_head as head_of, in_force_all};
+ghost use Rattle.options.specs.Propagating.{head_turned_on as head_of, in_force_all};
 ghost use Rattle.options.specs.Verdict.{options_of};
 
-use rules::{Body, OptionSet, Rule};
+use rules::{Body, LAST_OPTION, OptionSet, Rule};
 use sets::{Mask, Set};
 
 // Each sweep but the last turns one of 32 options on.
-const MOST_SWEEPS: u32 = 33;
+const MOST_SWEEPS: u32 = LAST_OPTION + 2;
 
 // The head that a rule with this body, if it is in force, turns on: it is off, and all of the options are on.
-fn ripe_head(body: Option<Body>, on: Mask) -> Option<u32>
+fn head_turned_on(body: Option<Body>, on: Mask) -> Option<u32>
     ensures { result ≡ head_of body (number_of on) }
 {
     match body {
@@ -34,7 +34,7 @@ fn ripe_head(body: Option<Body>, on: Mask) -> Option<u32>
 fn turned_by(rule: &Rule, set: Set, on: Mask) -> Mask
     ensures { number_of result ≡ turned_if (in_force (bits_of set) rule.now) (number_of on) }
 {
-    match ripe_head(rule.body, on) {
+    match head_turned_on(rule.body, on) {
         Some(head) if rule.in_force(set).is_some() => on.with(head),
         _ => on,
     }

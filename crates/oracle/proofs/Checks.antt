@@ -1,8 +1,8 @@
 -- The cases of a check, both ways: when each occurs, and what it then says. Assumes nothing.
-use Rattle.std.proofs.Common.{◌≡◌, ℕ, true, false, Ok, Err, Result, sym, refl, ◌∙◌, subst}
+use Rattle.std.proofs.Common.{◌≡◌, ℕ, true, false, Some, None, Ok, Err, Option, Result, inr, sym, refl, ◌∙◌, subst}
 use Rattle.std.proofs.lemmas.Bool.{cond-true, cond-false}
 use Rattle.sets.specs.Requests.{within}
-use Rattle.oracle.specs.Asking.{nought, verdict, if_left, check_answer, AfterCheck, Checked}
+use Rattle.oracle.specs.Asking.{nought, verdict, if_left, check_answer, Taken, AfterCheck, Checked}
 use Rattle.oracle.specs.Meaning.{Meaning, Kept, Unchanged}
 use Rattle.oracle.specs.declared.CheckRefusal.{CheckRefusal}
 use Rattle.oracle.specs.declared.CheckRefusal.TheVariants.{Outside, Spent}
@@ -37,8 +37,16 @@ left_as m n s r x checked due =
     (checked.0 ∙ due, subst P (checked.0 ∙ due) checked.1)
 
 -- nothing changed
-pub unchanged : (m : Meaning) → Unchanged m m
-unchanged m = ((refl, λ s near. refl), refl, refl)
-
 pub kept : (m : Meaning) → Kept m m
-kept m = (refl, λ s near. refl)
+kept m = (refl, λ s near. refl, refl)
+
+pub unchanged : (m : Meaning) → Unchanged m m
+unchanged m = (kept m, refl, refl)
+
+-- what is one less is the same or one less
+pub taken_loose : (counted_by a b : Option ℕ) → Taken counted_by a b → Taken None a b
+taken_loose counted_by None None taken = tt
+taken_loose counted_by None (Some b) taken = absurd taken
+taken_loose counted_by (Some a) None taken = absurd taken
+taken_loose None (Some a) (Some b) taken = taken
+taken_loose (Some own) (Some a) (Some b) taken = inr taken

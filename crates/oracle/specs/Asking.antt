@@ -8,6 +8,7 @@ use Rattle.oracle.specs.declared.GrantRefusal.{GrantRefusal}
 use Rattle.oracle.specs.declared.GrantRefusal.TheVariants.{Over}
 use Rattle.oracle.specs.declared.Verdict.{Verdict}
 
+-- the answer that a set is fit, or not
 abbrev pub verdict : Bool → Verdict
 verdict fit = record { fit = fit }
 
@@ -29,16 +30,17 @@ width_answer width s = cond (within width s) (Ok tt) (Err Outside)
 abbrev pub check_answer : Meaning → ℕ → Result Verdict CheckRefusal
 check_answer m s = cond (within m.width s) (if_left m s) (Err Outside)
 
--- an allowance after an answered check: endless, or the same, or one less
-abbrev pub Taken : Option ℕ → Option ℕ → Type 0
-Taken None None = Unit {0}
-Taken None (Some b) = ⊥
-Taken (Some a) None = ⊥
-Taken (Some a) (Some b) = (b ≡ a) ⊎ (suc b ≡ a)
+-- an allowance after an answered check: endless, or the same, or one less; always one less where someone counts each
+abbrev pub Taken : (counted_by before after : Option ℕ) → Type 0
+Taken counted_by None None = Unit {0}
+Taken counted_by None (Some b) = ⊥
+Taken counted_by (Some a) None = ⊥
+Taken None (Some a) (Some b) = (b ≡ a) ⊎ (suc b ≡ a)
+Taken (Some own) (Some a) (Some b) = suc b ≡ a
 
 -- what a check leaves
 abbrev pub AfterCheck : Result Verdict CheckRefusal → Meaning → Meaning → Type 0
-AfterCheck (Ok v) m n = Kept m n × Taken m.allowance n.allowance
+AfterCheck (Ok v) m n = Kept m n × Taken m.counted_by m.allowance n.allowance
 AfterCheck (Err e) m n = Unchanged m n
 
 -- CHECK of a set: the answer, and what the oracle means afterwards
@@ -54,6 +56,7 @@ abbrev pub grown : ℕ → Option ℕ → Option ℕ
 grown k None = None
 grown k (Some a) = Some (min (a + k) limit)
 
+-- what a grant leaves
 abbrev pub AfterGrant : Result (Unit {0}) GrantRefusal → ℕ → Meaning → Meaning → Type 0
 AfterGrant (Ok u) k m n = Kept m n × (n.allowance ≡ grown k m.allowance)
 AfterGrant (Err e) k m n = Unchanged m n

@@ -31,13 +31,13 @@ label_piled (suc k) =
     ap (λ n. own (nought (Some n))) e ∙ sym (ap own (ne_eqb (suc k) 0 (omega arith)))
 
 module _ (rules : List Rule) (s : ℕ) where
-  all_fit : (options.fit rules s && (gaps.fit rules s && faces.fit rules s)) ≡ true → Fit rules s
+  pub all_fit : (options.fit rules s && (gaps.fit rules s && faces.fit rules s)) ≡ true → Fit rules s
   all_fit e =
       let first = and_parts (options.fit rules s) (gaps.fit rules s && faces.fit rules s) e in
       let rest = and_parts (gaps.fit rules s) (faces.fit rules s) first.1 in
       fit_joined rules s (true_yes (options_decided rules s) first.0) (true_yes (gaps_decided rules s) rest.0) (true_yes (faces_decided rules s) rest.1)
 
-  fit_all : Fit rules s → (options.fit rules s && (gaps.fit rules s && faces.fit rules s)) ≡ true
+  pub fit_all : Fit rules s → (options.fit rules s && (gaps.fit rules s && faces.fit rules s)) ≡ true
   fit_all fit =
       and_from (options.fit rules s) (gaps.fit rules s && faces.fit rules s) (yes_true (options_decided rules s) (fit_kind kind.Options rules s fit))
       (and_from (gaps.fit rules s) (faces.fit rules s) (yes_true (gaps_decided rules s) (fit_kind kind.Gaps rules s fit))
@@ -50,4 +50,5 @@ piled_is rules width checks = record {
   then_fit = fit_all rules;
   allowance_is = refl;
   label_is = label_piled checks;
+  counted_by_is = refl;
 }

@@ -1,20 +1,29 @@
 -- Whether all requests of a ticket can be met together. Assumes nothing.
-use Rattle.std.specs.Prelude.{◌≡◌, ℕ, min, true, List, Ok, Err, Result, ◌≢◌}
+use Rattle.std.specs.Prelude.{◌≡◌, ℕ, min, cond, List, ◌++◌, codes, decimal, ◌==◌, ◌≢◌}
 use Rattle.sets.specs.Requests.{widest, everyone}
-use Rattle.oracle.specs.Asking.{check_answer}
-use Rattle.oracle.specs.declared.CheckRefusal.{CheckRefusal}
-use Rattle.oracle.specs.declared.CheckRefusal.TheVariants.{Spent}
-use Rattle.oracle.specs.declared.Verdict.{Verdict}
-use Rattle.rules.specs.Choices.{Fit}
+use Rattle.rules.specs.Choices as choices
 use Rattle.rules.specs.declared.Rule.{Rule}
-use Rattle.report.specs.Piles.{piled}
+use Rattle.report.specs.Piles.{own_label, rules_meaning}
+use Rattle.report.specs.declared.Outcome.{Outcome}
+use Rattle.report.specs.declared.Outcome.TheVariants.{Fit, Unfit, Spent}
 
--- what a new pile answers to a check of all requests
-unfoldable pub together : List Rule → (width checks : ℕ) → Result Verdict CheckRefusal
-together rules width checks = check_answer (piled rules width checks) (everyone (min width widest))
+-- all requests of a ticket
+abbrev pub all_of : (width : ℕ) → ℕ
+all_of width = everyone (min width widest)
 
--- with a check at hand, whether some choice meets every rule of the house and of all requests; otherwise refused with label 1
-abbrev pub ToldTogether : List Rule → (width checks : ℕ) → Result Verdict CheckRefusal → Type 0
-ToldTogether rules width checks (Ok v) =
-    (v.fit ≡ true → Fit rules (everyone (min width widest))) × (Fit rules (everyone (min width widest)) → v.fit ≡ true) × (checks ≢ 0)
-ToldTogether rules width checks (Err e) = (e ≡ Spent 1) × (checks ≡ 0)
+-- the verdict on all requests, where a check is allowed
+unfoldable pub together : List Rule → (width checks : ℕ) → Outcome
+together rules width checks = cond (checks == 0) (Spent own_label) (cond ((rules_meaning (min width widest) rules).fit (all_of width)) Fit Unfit)
+
+-- it is fit where some choice meets every rule of the house and of all requests, unfit where none does, and refused with the label 1
+-- exactly where no check is allowed
+abbrev pub ToldTogether : List Rule → (width checks : ℕ) → Outcome → Type 0
+ToldTogether rules width checks Fit = (checks ≢ 0) × choices.Fit rules (all_of width)
+ToldTogether rules width checks Unfit = (checks ≢ 0) × (choices.Fit rules (all_of width) → ⊥)
+ToldTogether rules width checks (Spent label) = (checks ≡ 0) × (label ≡ own_label)
+
+-- how it is written
+abbrev pub outcome_text : Outcome → List ℕ
+outcome_text Fit = codes "fit"
+outcome_text Unfit = codes "unfit"
+outcome_text (Spent label) = codes "spent," ++ decimal label

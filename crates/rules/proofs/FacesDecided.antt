@@ -1,34 +1,24 @@
--- Elimination decides whether the rules of faces in force can be met. Assumes nothing.
-use Rattle.std.proofs.Common.{◌≡◌, ℕ, zero, suc, ◌+◌, ◌*◌, ◌/◌, ◌^◌, ◌<◌, ◌≤◌, Bool, true, false, ltb, List, [], ◌∷◌, get_or, replicate, Some, None, Option, refl, ap, ◌∙◌, subst, lt_of_lt_of_le, pow-suc, arith, pow_mono}
-use lib.ListN.{length-replicate}
-use Rattle.std.proofs.lemmas.Nat.{pow_pos}
-use Rattle.std.proofs.lemmas.Bool.{false≢true, cond_both, ltb-true}
+-- Substitution decides whether the rules of faces in force can be met. Assumes nothing.
+use Rattle.std.proofs.Common.{◌≡◌, ℕ, ◌+◌, ◌*◌, ◌%◌, ◌^◌, ◌<◌, ◌≤◌, Bool, true, false, eqb, ltb, List, [], ◌∷◌, map, Some, None, Option, sym, refl, ap, ◌∙◌, subst, lt_of_lt_of_le, arith, pow_mono}
+use Rattle.std.proofs.lemmas.Bool.{false≢true, cond_both, eqb-true, eqb-false, eq-eqb, ne_eqb, ltb-true, ltb-false}
 use Rattle.sets.specs.Masks.{number_of}
-use Rattle.rules.specs.Choices.{Choice, Every, MeetsKind, FitBy}
-use Rattle.rules.specs.Elimination.{equation, reduced, entered, entered_all, solved, back_of, more_faces, width_of, solution, choice_back}
+use Rattle.rules.specs.Choices.{Choice, choice_back, Every, MeetsKind, FitBy}
 use Rattle.rules.specs.Force.{and_then, said}
+use Rattle.rules.specs.Substitution.{bit_of, free, total, lowest, put_in, made_zero, entered, entered_all, constants, back_of, more_faces, width_of, solution}
 use Rattle.rules.specs.declared.Body.{Body}
 use Rattle.rules.specs.declared.Body.TheVariants as body
 use Rattle.rules.specs.declared.FaceSet.{FaceSet}
 use Rattle.rules.specs.declared.Kind.TheVariants.{Faces}
 use Rattle.rules.specs.declared.Rule.{Rule}
-use Rattle.rules.proofs.Parity.{parity, parity_none, equation_meets, meets_equation}
-use Rattle.rules.proofs.Rows.{Ready, ReadyIf, Holds, HoldsIf, Comes, comes}
-use Rattle.rules.proofs.Solving.{solved_holds}
+use Rattle.rules.proofs.Parity.{parity, parity_none, parity_small, parity_within, one_parity}
+use Rattle.rules.proofs.Substituting.{told, told_free, told_constants, told_total, told_put_in, turned, turned_nought, turned_odd, turned_none}
+use Rattle.rules.proofs.Trailing.{below_power, lowest_there}
 
 -- the faces of a rule are below n
 abbrev Narrow : ℕ → Body → Type 0
 Narrow n (body.Options head s) = Unit {0}
 Narrow n (body.Gap a b w) = Unit {0}
 Narrow n (body.Faces odd s) = number_of s.members < 2 ^ n
-
-below_power : (n : ℕ) → n < 2 ^ n
-below_power zero = omega arith
-below_power (suc n) = omega (arith, pow-suc 2 n, below_power n)
-
-equation_narrow : (odd : Bool) (m n : ℕ) → m < 2 ^ n → equation odd m < 2 ^ suc n
-equation_narrow true m n narrow = omega (arith, pow-suc 2 n)
-equation_narrow false m n narrow = omega (arith, pow-suc 2 n)
 
 narrow_one : (b : Body) (n : ℕ) → more_faces b + 32 ≤ n → Narrow n b
 narrow_one (body.Options head s) n wide = tt
@@ -48,118 +38,149 @@ narrow_all : (bs : List Body) (n : ℕ) → width_of bs ≤ n → Every (Narrow 
 narrow_all [] n wide = tt
 narrow_all (b ∷ bs) n wide = (narrow_one b n (omega (arith, wide_enough bs)), narrow_all bs n (omega arith))
 
--- what is tried for the faces of a choice at the back
+-- a choice of faces at the back that meets the rules of faces among these
+abbrev Serves : ℕ → List Body → Type 0
+Serves x bs = Every (MeetsKind Faces (choice_back x)) bs
+
+-- no choice does
+abbrev Never : List Body → Type 0
+Never bs = ((c : Choice) × Every (MeetsKind Faces c) bs) → ⊥
+
+-- what tells the faces of a choice at the back
 abbrev tried : Choice → ℕ
 tried c = c.back * 2 + 1
 
--- one more rule came to the rows: they hold of a choice just where they did before and the choice meets the rule
-record Takes (n : ℕ) (before : Option (List ℕ)) (b : Body) (after : Option (List ℕ)) : Type 0 where
-  ready : ReadyIf n after
-  back : (c : Choice) → HoldsIf (tried c) after → HoldsIf (tried c) before × MeetsKind Faces c b
-  on : (c : Choice) → HoldsIf (tried c) before → MeetsKind Faces c b → HoldsIf (tried c) after
+-- on the way: faces that the sums tell meet all if they meet the rest, and the sums tell the faces of whatever meets all
+pub record Leaves (n : ℕ) (all rest : List Body) (sums : List ℕ) : Type 0 where
+  pub back : (y : ℕ) → y % 2 ≡ 1 → Serves (told sums y) rest → Serves (told sums y) all
+  pub on : (c : Choice) → Every (MeetsKind Faces c) all → (told sums (tried c) ≡ c.back % 2 ^ n) × Every (MeetsKind Faces c) rest
+
+abbrev pub LeavesIf : (n : ℕ) (all rest : List Body) → Option (List ℕ) → Type 0
+LeavesIf n all rest None = Never all
+LeavesIf n all rest (Some sums) = Leaves n all rest sums
+
+pub leaves_start : (n : ℕ) (all : List Body) → Leaves n all all (free n)
+leaves_start n all = record {
+  back = λ y odd meets. meets;
+  on = λ c meets. (told_free n (tried c) ∙ ap (λ k. k % 2 ^ n) (omega arith), meets);
+}
+
+-- a rule's bit, as parity and as a test
+bit_parity : (odd : Bool) (y : ℕ) → y % 2 ≡ 1 → parity (bit_of odd) y ≡ bit_of odd
+bit_parity true y one = one_parity y ∙ one
+bit_parity false y one = parity_none y
+
+asked : (odd : Bool) (m x : ℕ) → parity m x ≡ bit_of odd → eqb (parity m x) 1 ≡ odd
+asked true m x same = eq-eqb (parity m x) 1 same
+asked false m x same = ne_eqb (parity m x) 1 (λ one. omega arith)
+
+given : (odd : Bool) (m x : ℕ) → eqb (parity m x) 1 ≡ odd → parity m x ≡ bit_of odd
+given true m x same = eqb-true (parity m x) 1 same
+given false m x same = omega (arith, eqb-false (parity m x) 1 same, parity_small m x)
+
+bit_small : (odd : Bool) → bit_of odd < 2
+bit_small true = omega arith
+bit_small false = omega arith
+
+-- one more rule of faces, which adds up to e
+module _ (n : ℕ) (all rest : List Body) (odd : Bool) (s : FaceSet) (narrow : number_of s.members < 2 ^ n) (sums : List ℕ) (leaves : Leaves n all (body.Faces odd s ∷ rest) sums) where
+  abbrev m : ℕ
+  m = number_of s.members
+
+  abbrev e : ℕ
+  e = total sums m (bit_of odd)
+
+  comes : (y : ℕ) → y % 2 ≡ 1 → parity e y ≡ (bit_of odd + parity m (told sums y)) % 2
+  comes y one = told_total sums m (bit_of odd) y ∙ ap (λ b. (b + parity m (told sums y)) % 2) (bit_parity odd y one)
+
+  -- where it comes out as 0, the rule is met
+  back_nought : (y : ℕ) → y % 2 ≡ 1 → parity e y ≡ 0 → Serves (told sums y) rest → Serves (told sums y) all
+  back_nought y one nought meets =
+      let same : parity m (told sums y) ≡ bit_of odd = omega (arith, comes y one, bit_small odd, parity_small m (told sums y)) in
+      leaves.back y one (λ of. asked odd m (told sums y) same, meets)
+
+  -- and for whatever meets all, it does
+  on_nought : (c : Choice) → Every (MeetsKind Faces c) all → parity e (tried c) ≡ 0
+  on_nought c meets =
+      let old = leaves.on c meets in
+      let same : parity m (told sums (tried c)) ≡ bit_of odd = ap (parity m) old.0 ∙ parity_within m c.back n narrow ∙ given odd m c.back (old.1.0 refl) in
+      omega (arith, comes (tried c) (omega arith), same, bit_small odd)
+
+  leaves_put : 2 ≤ e → Leaves n all rest (map (put_in (lowest e) e) sums)
+  leaves_put some =
+      let q : ℕ = lowest e in
+      record {
+        back = λ y one meets.
+            let put = told_put_in q e sums y in
+            let S : List Body → ℕ → Type 0 = λ bs x. Serves x bs in
+            subst (S all) (sym put)
+            (back_nought (turned q e y) (turned_odd _ e y one) (turned_nought q e y (lowest_there e some)) (subst (S rest) put meets));
+        on = λ c meets.
+            (told_put_in q e sums (tried c) ∙ ap (told sums) (turned_none q e (tried c) (on_nought c meets)) ∙ (leaves.on c meets).0, (leaves.on c meets).1.1);
+      }
+
+  leaves_faces : LeavesIf n all rest (made_zero sums e)
+  leaves_faces =
+      let L : Option (List ℕ) → Type 0 = LeavesIf n all rest in
+      cond_both (ltb e 2) _ _ L
+      (λ small.
+      cond_both (eqb e 0) _ _ L
+      (λ zero. record {
+        back = λ y one meets. back_nought y one (ap (λ k. parity k y) (eqb-true e 0 zero) ∙ parity_none y) meets;
+        on = λ c meets. ((leaves.on c meets).0, (leaves.on c meets).1.1);
+      })
+      (λ other fit.
+      let one : e ≡ 1 = omega (arith, ltb-true e 2 small, eqb-false e 0 other) in
+      omega (arith, on_nought fit.0 fit.1, ap (λ k. parity k (tried fit.0)) one, one_parity (tried fit.0))))
+      (λ large. leaves_put (ltb-false e 2 large))
 
 -- what is not about faces
-takes_other : (n : ℕ) (rows : List ℕ) (b : Body) → Ready n rows → ((c : Choice) → MeetsKind Faces c b) → Takes n (Some rows) b (Some rows)
-takes_other n rows b ready free = record { ready = ready; back = λ c holds. (holds, free c); on = λ c holds meets. holds }
-
-takes_faces : (n : ℕ) (rows : List ℕ) (odd : Bool) (s : FaceSet) → number_of s.members < 2 ^ n → Ready n rows
-    → Takes n (Some rows) (body.Faces odd s) (entered n (Some rows) (body.Faces odd s))
-takes_faces n rows odd s narrow ready =
-    let m : ℕ = number_of s.members in
-    let came : Comes n rows (equation odd m) (reduced n 1 rows (equation odd m)) =
-    comes n n 1 (equation odd m) rows (omega arith) (omega arith) ready (equation_narrow odd m n narrow) (λ i some low. absurd (omega arith)) in
-    record {
-      ready = came.ready;
-      back = λ c holds. ((came.back (tried c) holds).0, λ same. equation_meets odd m c.back (came.back (tried c) holds).1);
-      on = λ c holds meets. came.on (tried c) (omega arith) holds (meets_equation odd m c.back (meets refl));
-    }
-
-takes_one : (n : ℕ) (before : Option (List ℕ)) (b : Body) → Narrow n b → ReadyIf n before → Takes n before b (entered n before b)
-takes_one n None b narrow ready = record { ready = tt; back = λ c never. absurd never; on = λ c never meets. never }
-takes_one n (Some rows) (body.Options head s) narrow ready = takes_other n rows (body.Options head s) ready (λ c other. absurd (false≢true other))
-takes_one n (Some rows) (body.Gap a b w) narrow ready = takes_other n rows (body.Gap a b w) ready (λ c other. absurd (false≢true other))
-takes_one n (Some rows) (body.Faces odd s) narrow ready = takes_faces n rows odd s narrow ready
-
--- on the way: a choice meets all just where the rows hold of it and it meets the rest
-pub record Leaves (n : ℕ) (all rest : List Body) (rows : Option (List ℕ)) : Type 0 where
-  pub ready : ReadyIf n rows
-  pub back : (c : Choice) → HoldsIf (tried c) rows → Every (MeetsKind Faces c) rest → Every (MeetsKind Faces c) all
-  pub on : (c : Choice) → Every (MeetsKind Faces c) all → HoldsIf (tried c) rows × Every (MeetsKind Faces c) rest
-
--- at the start no row says anything
-fresh : (k q : ℕ) → ◌≡◌ {A = ℕ} (get_or (replicate k 0) q 0) 0
-fresh zero q = refl
-fresh (suc k) zero = refl
-fresh (suc k) (suc q) = fresh k q
-
-ready_fresh : (n : ℕ) → Ready n (replicate (suc n) 0)
-ready_fresh n = record {
-  size = length-replicate (suc n) 0;
-  narrow = λ q. omega (arith, fresh (suc n) q, pow_pos (suc n));
-  leads = λ q some. absurd (some (fresh (suc n) q));
+leaves_other : (n : ℕ) (all rest : List Body) (b : Body) (sums : List ℕ) → ((c : Choice) → MeetsKind Faces c b) → Leaves n all (b ∷ rest) sums → Leaves n all rest sums
+leaves_other n all rest b sums passed leaves = record {
+  back = λ y one meets. leaves.back y one (passed (choice_back (told sums y)), meets);
+  on = λ c meets. ((leaves.on c meets).0, (leaves.on c meets).1.1);
 }
 
-pub leaves_start : (n : ℕ) (all : List Body) → Leaves n all all (Some (replicate (suc n) 0))
-leaves_start n all = record {
-  ready = ready_fresh n;
-  back = λ c holds meets. meets;
-  on = λ c meets. (λ q. ap (λ r. parity r (tried c)) (fresh (suc n) q) ∙ parity_none (tried c), meets);
-}
+leaves_one : (n : ℕ) (all rest : List Body) (b : Body) (sums : Option (List ℕ)) → Narrow n b → LeavesIf n all (b ∷ rest) sums → LeavesIf n all rest (entered sums b)
+leaves_one n all rest b None narrow never = never
+leaves_one n all rest (body.Options head s) (Some sums) narrow leaves = leaves_other n all rest (body.Options head s) sums (λ c other. absurd (false≢true other)) leaves
+leaves_one n all rest (body.Gap a b w) (Some sums) narrow leaves = leaves_other n all rest (body.Gap a b w) sums (λ c other. absurd (false≢true other)) leaves
+leaves_one n all rest (body.Faces odd s) (Some sums) narrow leaves = leaves_faces n all rest odd s narrow sums leaves
 
-leaves_one : (n : ℕ) (all rest : List Body) (b : Body) (rows : Option (List ℕ)) → Narrow n b → Leaves n all (b ∷ rest) rows → Leaves n all rest (entered n rows b)
-leaves_one n all rest b rows narrow leaves =
-    let takes = takes_one n rows b narrow leaves.ready in
-    record {
-      ready = takes.ready;
-      back = λ c holds meets. leaves.back c (takes.back c holds).0 ((takes.back c holds).1, meets);
-      on = λ c meets. let old = leaves.on c meets in (takes.on c old.0 old.1.0, old.1.1);
-    }
-
-leaves_end : (n : ℕ) (all rest : List Body) (rows : Option (List ℕ)) → Every (Narrow n) rest → Leaves n all rest rows → Leaves n all [] (entered_all n rows rest)
-leaves_end n all [] rows narrow leaves = leaves
-leaves_end n all (b ∷ rest) rows narrow leaves = leaves_end n all rest (entered n rows b) narrow.1 (leaves_one n all rest b rows narrow.0 leaves)
+leaves_end : (n : ℕ) (all rest : List Body) (sums : Option (List ℕ)) → Every (Narrow n) rest → LeavesIf n all rest sums → LeavesIf n all [] (entered_all sums rest)
+leaves_end n all [] sums narrow leaves = leaves
+leaves_end n all (b ∷ rest) sums narrow leaves = leaves_end n all rest (entered sums b) narrow.1 (leaves_one n all rest b sums narrow.0 leaves)
 
 -- one rule of the list, which may say nothing
-pub leaves_next : (n : ℕ) (all rest : List Body) (o : Option Body) (rows : Option (List ℕ)) → width_of (and_then o []) ≤ n
-    → Leaves n all (and_then o rest) rows → Leaves n all rest (entered_all n rows (and_then o []))
-leaves_next n all rest None rows wide leaves = leaves
-leaves_next n all rest (Some b) rows wide leaves = leaves_one n all rest b rows (narrow_one b n wide) leaves
+pub leaves_next : (n : ℕ) (all rest : List Body) (o : Option Body) (sums : Option (List ℕ)) → width_of (and_then o []) ≤ n
+    → LeavesIf n all (and_then o rest) sums → LeavesIf n all rest (entered_all sums (and_then o []))
+leaves_next n all rest None sums wide leaves = leaves
+leaves_next n all rest (Some b) sums wide leaves = leaves_one n all rest b sums (narrow_one b n wide) leaves
 
--- what solves the rows serves for all, and without rows nothing does
-pub leaves_some : (n : ℕ) (all : List Body) (rows : List ℕ) → Leaves n all [] (Some rows) → Every (MeetsKind Faces (choice_back (solved n rows 1 / 2))) all
-leaves_some n all rows leaves =
-    let solves = solved_holds n rows leaves.ready in
-    let H : ℕ → Type 0 = λ y. Holds y rows in
-    leaves.back (choice_back (solved n rows 1 / 2)) (subst H (omega (arith, solves.0)) solves.1) tt
+-- at the end, what the sums tell where no free face is at the back serves for all
+pub leaves_some : (n : ℕ) (all : List Body) (sums : List ℕ) → Leaves n all [] sums → Serves (constants sums) all
+leaves_some n all sums leaves =
+    let S : ℕ → Type 0 = λ x. Serves x all in
+    subst S (told_constants sums) (leaves.back 1 refl tt)
 
-pub leaves_none : (n : ℕ) (all rest : List Body) → Leaves n all rest None → ((c : Choice) × Every (MeetsKind Faces c) all) → ⊥
-leaves_none n all rest leaves fit = (leaves.on fit.0 fit.1).0
+-- faces that serve, or none where no choice does
+abbrev pub Answers : List Body → Option ℕ → Type 0
+Answers bs None = Never bs
+Answers bs (Some x) = Serves x bs
 
--- the solution serves, and without one nothing does
-serves : (n x : ℕ) (all : List Body) (rows : Option (List ℕ)) → Leaves n all [] rows → back_of n rows ≡ Some x → Every (MeetsKind Faces (choice_back x)) all
-serves n x all None leaves same = let z : ◌≡◌ {A = ℕ} 0 1 = cc in absurd (omega arith)
-serves n x all (Some rows) leaves same =
-    let half : solved n rows 1 / 2 ≡ x = cc in
-    let E : ℕ → Type 0 = λ y. Every (MeetsKind Faces (choice_back y)) all in
-    subst E half (leaves_some n all rows leaves)
+leaves_nothing : (n : ℕ) (all : List Body) (sums : Option (List ℕ)) → LeavesIf n all [] sums → Answers all (back_of sums)
+leaves_nothing n all None never = never
+leaves_nothing n all (Some sums) leaves = leaves_some n all sums leaves
 
-never : (n : ℕ) (all : List Body) (rows : Option (List ℕ)) → Leaves n all [] rows → back_of n rows ≡ None → ((c : Choice) × Every (MeetsKind Faces c) all) → ⊥
-never n all None leaves same fit = leaves_none n all [] leaves fit
-never n all (Some rows) leaves same fit = let z : ◌≡◌ {A = ℕ} 0 1 = cc in omega arith
+pub solution_answers : (bs : List Body) → Answers bs (solution bs)
+solution_answers bs =
+    let n : ℕ = width_of bs in
+    leaves_nothing n bs _ (leaves_end n bs bs _ (narrow_all bs n (omega arith)) (leaves_start n bs))
 
-leaves_all : (bs : List Body) → Leaves (width_of bs) bs [] (entered_all (width_of bs) (Some (replicate (suc (width_of bs)) 0)) bs)
-leaves_all bs = leaves_end (width_of bs) bs bs _ (narrow_all bs (width_of bs) (omega arith)) (leaves_start (width_of bs) bs)
-
-pub solution_serves : (bs : List Body) (x : ℕ) → solution bs ≡ Some x → Every (MeetsKind Faces (choice_back x)) bs
-solution_serves bs x same = serves (width_of bs) x bs _ (leaves_all bs) same
-
-pub solution_none : (bs : List Body) → solution bs ≡ None → ((c : Choice) × Every (MeetsKind Faces c) bs) → ⊥
-solution_none bs same fit = never (width_of bs) bs _ (leaves_all bs) same fit
-
--- the decision, by what the elimination gives
-abbrev pub decided_by : (bs : List Body) (found : Option ℕ) → solution bs ≡ found → Dec ((c : Choice) × Every (MeetsKind Faces c) bs)
-decided_by bs None same = no (solution_none bs same)
-decided_by bs (Some x) same = yes (choice_back x, solution_serves bs x same)
+-- the decision, by what the substitution gives
+abbrev pub decided_by : (bs : List Body) (found : Option ℕ) → Answers bs found → Dec ((c : Choice) × Every (MeetsKind Faces c) bs)
+decided_by bs None never = no never
+decided_by bs (Some x) serves = yes (choice_back x, serves)
 
 abbrev pub faces_decided : (rules : List Rule) (s : ℕ) → Dec (FitBy Faces rules s)
-faces_decided rules s = decided_by (said s rules) (solution (said s rules)) refl
+faces_decided rules s = decided_by (said s rules) (solution (said s rules)) (solution_answers (said s rules))

@@ -1,11 +1,10 @@
 -- A part of a set has fewer rules in force: the same choice serves, so every part of a fit set is fit. Assumes nothing.
-use Rattle.std.proofs.Common.{◌≡◌, ℕ, ◌-◌, ◌≤◌, true, false, ◌||◌, eqb, ltb, leb, List, [], ◌∷◌, is_some, Some, None, Option, sym, refl, subst, inl, inr, lit≤}
+use Rattle.std.proofs.Common.{◌≡◌, ℕ, ◌≤◌, true, false, ◌||◌, eqb, leb, List, [], ◌∷◌, is_some, Some, None, Option, sym, refl, subst, inl, inr, lit≤}
 use Rattle.std.specs.Option.{option_map}
 use mathlib.Core.Logic.{ite}
 use Rattle.std.proofs.lemmas.Bool.{false≢true, cases_Bool, cond-true, cond-false, and_parts, and_from, or_cases, or_left, or_right}
-use Rattle.sets.specs.Members.{has}
 use Rattle.sets.specs.Requests.{widest, names, Part}
-use Rattle.sets.proofs.Parts.{part_has}
+use Rattle.sets.proofs.Weights.{part_names}
 use Rattle.oracle.specs.Meaning.{Downward, Lawful}
 use Rattle.rules.specs.Choices.{Choice, Every, MeetsKind}
 use Rattle.rules.specs.Force.{counts_for, if_valid, in_force, and_then, said}
@@ -14,11 +13,6 @@ use Rattle.rules.specs.declared.Body.{Body}
 use Rattle.rules.specs.declared.Kind.{Kind}
 use Rattle.rules.specs.declared.Rule.{Rule}
 
-part_names : (t s r : ℕ) → Part t s → names t r ≡ true → names s r ≡ true
-part_names t s r within there =
-    let both = and_parts (ltb 0 r) (has t (r - 1)) there in
-    and_from (ltb 0 r) (has s (r - 1)) both.0 (part_has t s (r - 1) within both.1)
-
 -- who counts for a part counts for the whole
 counts_more : (t s owner : ℕ) → Part t s → counts_for t owner ≡ true → counts_for s owner ≡ true
 counts_more t s owner within there =
@@ -26,7 +20,7 @@ counts_more t s owner within there =
     and_from (leb owner widest) (eqb owner 0 || names s owner) both.0
     (elim (or_cases (eqb owner 0) (names t owner) both.1) [
       | inl house ↦ or_left (eqb owner 0) (names s owner) house
-      | inr asked ↦ or_right (eqb owner 0) (names s owner) (part_names t s owner within asked)
+      | inr asked ↦ or_right (eqb owner 0) (names s owner) (part_names t s within owner asked)
     ])
 
 every_rest : (P : Body → Type 0) (o : Option Body) (bs : List Body) → Every P (and_then o bs) → Every P bs
@@ -75,7 +69,7 @@ rules_downward k decide rules width t s inside within fit =
 
 pub rule_lawful : (k : Kind) (decide : Decision k) (rules : List Rule) (width : ℕ) → width ≤ widest → Lawful (meant_by k decide width rules)
 rule_lawful k decide rules width narrow =
-    record { narrow = narrow; counted = tt; labelled = lit≤ tt; downward = rules_downward k decide rules width }
+    record { narrow = narrow; counted = tt; labelled = lit≤ tt; told = tt; downward = rules_downward k decide rules width }
 
 -- whether a search finds something is the verdict
 pub found_fit :

@@ -2,9 +2,9 @@
 use Rattle.std.proofs.Common.{◌≡◌, ℕ, zero, suc, ◌<◌, ◌≤◌, false, List, [], ◌∷◌, ℤ, pos, ◌+ℤ◌, ◌-ℤ◌, nat_abs, ◌≤ℤ◌, Some, None, Option, sym, refl, ◌∙◌, inl, inr, le_refl, arith}
 use Rattle.std.proofs.lemmas.Int.{ints}
 use Rattle.std.proofs.lemmas.Bool.{false≢true, or_parts, cases_Bool, cases_eq, cond-true, cond-false}
-use Rattle.rules.specs.Choices.{Choice, Every, MeetsKind, FitBy}
+use Rattle.rules.specs.Choices.{Choice, placed, Every, MeetsKind, FitBy}
 use Rattle.rules.specs.Force.{said}
-use Rattle.rules.specs.Rounds.{marks, placed, moves, raised_all, rounds, lowest, all_nought}
+use Rattle.rules.specs.Rounds.{marks, moves, raised_all, rounds, lowest, all_nought}
 use Rattle.rules.specs.declared.Body.{Body}
 use Rattle.rules.specs.declared.Body.TheVariants.{Options, Gap, Faces}
 use Rattle.rules.specs.declared.Kind.TheVariants as kind

@@ -3,12 +3,13 @@ pub mod FacesDecided
 pub mod Fewer
 pub mod GapsDecided
 pub mod Joined
+pub mod Laws
 pub mod OptionsDecided
 pub mod Parity
 pub mod Raising
-pub mod Rows
 pub mod Saying
 pub mod Settled
-pub mod Solving
 pub mod Spreading
+pub mod Substituting
+pub mod Trailing
 pub mod Walking

@@ -5,10 +5,10 @@ use Rattle.std.proofs.lemmas.Bool.{cond-true, false≢true, both_ways, and_parts
 use Rattle.sets.specs.Masks.{number_of}
 use Rattle.sets.specs.Members.{none, has, added}
 use Rattle.sets.specs.Requests.{Part, part}
-use Rattle.rules.specs.Choices.{Choice, Every, MeetsKind, FitBy}
+use Rattle.rules.specs.Choices.{Choice, choice_on, Every, MeetsKind, FitBy}
 use Rattle.rules.specs.Force.{head_valid, said}
 use Rattle.rules.specs.Limits.{most_members}
-use Rattle.rules.specs.Propagation.{choice_on, spread, most_sweeps, bars, barred, least}
+use Rattle.rules.specs.Propagation.{spread, most_sweeps, bars, barred, least}
 use Rattle.rules.specs.declared.Body.{Body}
 use Rattle.rules.specs.declared.Body.TheVariants.{Options, Gap, Faces}
 use Rattle.rules.specs.declared.Kind.TheVariants as kind

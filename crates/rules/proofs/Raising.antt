@@ -4,9 +4,9 @@ use lib.Signed.{lt_z, ≤ℤ_refl}
 use Rattle.std.proofs.lemmas.List.{get_or-set_same, get_or-set_other}
 use Rattle.std.proofs.lemmas.Int.{ints}
 use Rattle.std.proofs.lemmas.Bool.{cond_both, cond-false, cases_eq, or_parts, or_from}
-use Rattle.rules.specs.Choices.{Every}
+use Rattle.rules.specs.Choices.{place, Every}
 use Rattle.rules.specs.Limits.{widest_gap}
-use Rattle.rules.specs.Rounds.{marks, place, Between, lifts, moves, lifted, raised, raised_all}
+use Rattle.rules.specs.Rounds.{marks, Between, lifts, moves, lifted, raised, raised_all}
 use Rattle.rules.specs.declared.Body.{Body}
 use Rattle.rules.specs.declared.Body.TheVariants.{Options, Gap, Faces}
 use Rattle.rules.proofs.Bodies.{fair, OfGap, gaps_all}

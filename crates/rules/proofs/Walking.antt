@@ -4,8 +4,8 @@ use lib.ListN.{length-replicate}
 use lib.Signed.{le_z}
 use Rattle.std.proofs.lemmas.Int.{ints}
 use Rattle.std.proofs.lemmas.Bool.{both_ways, false≢true, cases_Bool, cases_lt, cond-true, cond-false, or_from}
-use Rattle.rules.specs.Choices.{Every}
-use Rattle.rules.specs.Rounds.{marks, place, moves, raised_all, rounds, all_nought, lowest}
+use Rattle.rules.specs.Choices.{place, Every}
+use Rattle.rules.specs.Rounds.{marks, moves, raised_all, rounds, all_nought, lowest}
 use Rattle.rules.specs.declared.Body.{Body}
 use Rattle.rules.specs.declared.Body.TheVariants.{Options, Gap, Faces}
 use Rattle.rules.proofs.Bodies.{Fair, fair, OfGap, gaps_give}

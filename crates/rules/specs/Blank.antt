@@ -2,5 +2,6 @@
 use Rattle.rules.specs.declared.Rule.{Rule}
 use Rattle.std.specs.Prelude.{None}
 
+-- a blank rule
 abbrev pub blank : Rule
 blank = record { owner = 0; body = None }

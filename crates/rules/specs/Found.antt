@@ -17,7 +17,7 @@ fit_by k decide rules s = ite (decide rules s) true false
 
 -- what an oracle over a list of rules means: its checks are endless, and its label is 0
 abbrev pub meant_by : (k : Kind) → Decision k → (width : ℕ) → List Rule → Meaning
-meant_by k decide width rules = record { width = width; fit = fit_by k decide rules; allowance = None; label = 0 }
+meant_by k decide width rules = record { width = width; fit = fit_by k decide rules; allowance = None; label = 0; counted_by = None }
 
 -- a choice that meets every rule of the kind that is in force for the set; none where no choice meets them
 abbrev pub FoundBy : Kind → List Rule → ℕ → Option Choice → Type 0

@@ -1,10 +1,11 @@
 pub mod Blank
 pub mod Choices
-pub mod Elimination
 pub mod Force
+pub mod ForceLaws
 pub mod Found
 pub mod Kinds
 pub mod Limits
 pub mod Made
 pub mod Propagation
 pub mod Rounds
+pub mod Substitution

@@ -1,13 +1,15 @@
 -- The limits of a rule. Assumes nothing.
 use Rattle.std.specs.Prelude.{ℕ}
 
--- options and faces are counted from 0, and so are marks
+-- the last option; options, faces and marks are counted from 0
 abbrev pub last_option : ℕ
 last_option = 31
 
+-- the last face
 abbrev pub last_face : ℕ
 last_face = 31
 
+-- the last mark
 abbrev pub last_mark : ℕ
 last_mark = 15
 

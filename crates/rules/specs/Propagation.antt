@@ -1,15 +1,11 @@
 -- How the least options that serve are found: from none on, each rule whose set is on turns its head on. Assumes nothing.
-use Rattle.std.specs.Prelude.{ℕ, zero, suc, Bool, false, cond, ◌||◌, List, [], ◌∷◌, pos, Some, None, Option, ◌==◌}
+-- These are steps of a search, which only private functions promise; what it finds is said in words of choices, in specs/Found.antt.
+use Rattle.std.specs.Prelude.{ℕ, zero, suc, Bool, false, cond, ◌||◌, List, [], ◌∷◌, Some, None, Option, ◌==◌}
 use Rattle.sets.specs.Masks.{number_of}
 use Rattle.sets.specs.Members.{none, added}
 use Rattle.sets.specs.Requests.{part}
-use Rattle.rules.specs.Choices.{Choice}
 use Rattle.rules.specs.declared.Body.{Body}
 use Rattle.rules.specs.declared.Body.TheVariants.{Options, Gap, Faces}
-
--- the choice that has these options on; nothing is said of marks and faces
-abbrev pub choice_on : ℕ → Choice
-choice_on on = record { on = on; mark = λ a. pos 0; back = none }
 
 -- the options with the head on, if there is one
 abbrev pub with_head : Option ℕ → ℕ → ℕ
@@ -48,6 +44,7 @@ bars (Options (Some h) s) on = false
 bars (Gap a b w) on = false
 bars (Faces odd s) on = false
 
+-- the same of what a rule may say
 abbrev pub bars_if : Option Body → ℕ → Bool
 bars_if None on = false
 bars_if (Some b) on = bars b on
@@ -57,6 +54,7 @@ abbrev pub barred : List Body → ℕ → Bool
 barred [] on = false
 barred (b ∷ bs) on = bars b on || barred bs on
 
+-- these options, unless some rule does not allow them
 abbrev pub unless_barred : List Body → ℕ → Option ℕ
 unless_barred bs on = cond (barred bs on) None (Some on)
 

@@ -1,6 +1,7 @@
 -- The least places of the marks that meet the gaps, found in rounds. Assumes nothing.
-use Rattle.std.specs.Prelude.{ℕ, zero, suc, Bool, false, cond, ◌||◌, List, [], ◌∷◌, replicate, ℤ, pos, ◌-ℤ◌, ◌≤ℤ◌, Some, None, Option, int_lt, slice_index_or, slice_set}
-use Rattle.rules.specs.Choices.{Choice}
+-- These are steps of a search, which only private functions promise; what it finds is said in words of choices, in specs/Found.antt.
+use Rattle.std.specs.Prelude.{ℕ, zero, suc, Bool, false, cond, ◌||◌, List, [], ◌∷◌, replicate, ℤ, pos, ◌-ℤ◌, ◌≤ℤ◌, Some, None, Option, int_lt, slice_set}
+use Rattle.rules.specs.Choices.{place}
 use Rattle.rules.specs.Limits.{last_mark}
 use Rattle.rules.specs.declared.Body.{Body}
 use Rattle.rules.specs.declared.Body.TheVariants.{Options, Gap, Faces}
@@ -9,17 +10,9 @@ use Rattle.rules.specs.declared.Body.TheVariants.{Options, Gap, Faces}
 abbrev pub marks : ℕ
 marks = suc last_mark
 
--- where a mark lies
-abbrev pub place : List ℤ → ℕ → ℤ
-place ps i = slice_index_or ps i (pos 0)
-
 -- no mark lies below nought, and none above n
 abbrev pub Between : (n : ℕ) → List ℤ → Type 0
 Between n ps = (i : ℕ) → (pos 0 ≤ℤ place ps i) × (place ps i ≤ℤ pos n)
-
--- a choice with these places; of the rest, nothing is on and nothing lies at the back
-abbrev pub placed : List ℤ → Choice
-placed ps = record { on = 0; mark = place ps; back = 0 }
 
 -- whether a rule lifts mark b, which then lies below mark a less w; other kinds lift nothing
 abbrev pub lifts : Body → (old new : List ℤ) → Bool

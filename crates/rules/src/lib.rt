@@ -5,6 +5,7 @@ ghost use Rattle.std.specs.Prelude.{◌≡◌, ◌≤◌, min};
 ghost use Rattle.rules.specs.Blank.{blank};
 ghost use Rattle.rules.specs.Made.{options_rule, gap_rule, faces_rule};
 ghost use Rattle.rules.specs.Force.{head_valid, body_valid, in_force};
+ghost use Rattle.rules.specs.ForceLaws.{ForceLaws};
 ghost use Rattle.sets.specs.Masks.{number_of};
 ghost use Rattle.sets.specs.Members.{size as count_of_members};
 ghost use Rattle.sets.specs.Requests.{widest};
@@ -210,3 +211,8 @@ impl<'a> RuleList<'a> {
         self.width
     }
 }
+
+// The laws of the rules in force and of being fit, as a theorem: see specs/ForceLaws.antt.
+pub fn force_laws_hold()
+    ensures { ForceLaws }
+{}

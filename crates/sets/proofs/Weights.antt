@@ -1,9 +1,10 @@
--- The laws of sets of requests: a set is known by its requests, a proper part weighs less, and the keep weight tells sets apart. Assumes nothing.
-use Rattle.std.proofs.Common.{◌≡◌, ℕ, zero, suc, ◌+◌, ◌-◌, ◌*◌, ◌^◌, ◌<◌, ◌≤◌, Bool, true, false, cond, ◌&&◌, ltb, sym, refl, ap, ◌∙◌, inl, inr, pow-suc, arith, lit<}
-use Rattle.std.proofs.lemmas.Bool.{cond_both, cases_lt, cases_eq, lt-ltb, and_parts, and_from, and_right, true≢false}
+-- The laws of sets of requests: a set is known by its requests, the width bounds them, a proper part weighs less, and the keep weight tells sets apart. Assumes nothing.
+use Rattle.std.proofs.Common.{◌≡◌, ℕ, zero, suc, ◌+◌, ◌-◌, ◌*◌, ◌%◌, ◌^◌, ◌<◌, ◌≤◌, Bool, true, false, cond, ◌&&◌, eqb, ltb, sym, refl, ap, ◌∙◌, inl, inr, pow-suc, pow_pos, arith, lit<}
+use Rattle.std.proofs.lemmas.Bool.{cond_both, cases_lt, cases_eq, ltb-true, lt-ltb, and_parts, and_from, and_right, true≢false}
+use Rattle.std.proofs.lemmas.Nat.Bits.{ones_shr}
 use Rattle.sets.specs.Members.{has}
-use Rattle.sets.specs.Requests.{names, Within, Part, keep_from, keep}
-use Rattle.sets.specs.SetLaws.{KnownByRequests, PartNames, NamesPart, PartBlamesLess, PartKeepsLess, KeepTells, SetLaws}
+use Rattle.sets.specs.Requests.{names, Within, Part, everyone, keep_from, keep}
+use Rattle.sets.specs.SetLaws.{KnownByRequests, PartNames, NamesPart, WithinNames, NamesWithin, EveryoneNames, PartBlamesLess, PartKeepsLess, KeepTells, SetLaws}
 use Rattle.sets.proofs.Bounds.{has_past}
 use Rattle.sets.proofs.Parts.{same_members, part_has, has_part, part_le, part_below}
 
@@ -14,13 +15,48 @@ names_next s i = ap (λ b. b && has s (suc i - 1)) (lt-ltb 0 (suc i) (omega arit
 known_by_requests : KnownByRequests
 known_by_requests s t same = same_members s t (λ i. sym (names_next s i) ∙ same (suc i) ∙ names_next t i)
 
-part_names : PartNames
+pub part_names : PartNames
 part_names t s p r h =
     let both = and_parts (ltb 0 r) (has t (r - 1)) h in
     and_from (ltb 0 r) (has s (r - 1)) both.0 (part_has t s (r - 1) p both.1)
 
 names_part : NamesPart
 names_part t s f = has_part t s (λ i h. sym (names_next s i) ∙ f (suc i) (names_next t i ∙ h))
+
+-- there is no request above the width
+pub names_past : (width s r : ℕ) → Within width s → width < r → names s r ≡ false
+names_past width s r small past = and_right (ltb 0 r) (has s (r - 1)) (has_past width s (r - 1) small (omega arith))
+
+within_names : WithinNames
+within_names width s small r there =
+    elim (cases_lt width r) [ inl past ↦ absurd (true≢false (sym there ∙ names_past width s r small past)) | inr low ↦ low ]
+
+-- all requests up to the width lie within it
+everyone_within : (width : ℕ) → Within width (everyone width)
+everyone_within width = omega (arith, pow_pos width)
+
+-- all bits below the width are set
+everyone_has : (width i : ℕ) → i < width → has (everyone width) i ≡ true
+everyone_has width i low =
+    let shifted = ones_shr width i (omega arith) in
+    let next : 2 ^ (width - i) ≡ 2 ^ (width - suc i) * 2 = ap (λ e. 2 ^ e) (omega arith) ∙ pow-suc 2 (width - suc i) in
+    let odd : (2 ^ (width - i) - 1) % 2 ≡ 1 = omega (arith, next, pow_pos (width - suc i)) in
+    ap (λ q. eqb (q % 2) 1) shifted ∙ ap (λ b. eqb b 1) odd
+
+everyone_names : EveryoneNames
+everyone_names width r = (
+  λ there. (ltb-true 0 r (and_parts (ltb 0 r) (has (everyone width) (r - 1)) there).0, within_names width (everyone width) (everyone_within width) r there),
+  λ (some, low). and_from (ltb 0 r) (has (everyone width) (r - 1)) (lt-ltb 0 r some) (everyone_has width (r - 1) (omega arith)),
+)
+
+-- requests up to the width are a part of all up to it
+names_within : NamesWithin
+names_within width s low =
+    let part : Part s (everyone width) =
+    names_part s (everyone width) (λ r there.
+    let some = ltb-true 0 r (and_parts (ltb 0 r) (has s (r - 1)) there).0 in
+    (everyone_names width r).1 (some, low r there))
+    in part_below width s (everyone width) part (everyone_within width)
 
 part_blames_less : PartBlamesLess
 part_blames_less t s p other = omega (arith, part_le t s p)
@@ -56,10 +92,6 @@ same_from (suc count) r width s t i end e low high =
       | inr later ↦ same_from count (suc r) width s t i (omega arith) told.1 (omega arith) high
     ]
 
--- there is no request above the width
-names_past : (width s r : ℕ) → Within width s → width < r → names s r ≡ false
-names_past width s r small past = and_right (ltb 0 r) (has s (r - 1)) (has_past width s (r - 1) small (omega arith))
-
 keep_tells : KeepTells
 keep_tells width s t small smaller e =
     known_by_requests s t (λ r.
@@ -88,4 +120,4 @@ part_keeps_less width t s small p other =
     omega (arith, part_keeps width 1 width t s p)
 
 pub set_laws : SetLaws
-set_laws = (known_by_requests, part_names, names_part, part_below, part_blames_less, part_keeps_less, keep_tells)
+set_laws = (known_by_requests, part_names, names_part, within_names, names_within, everyone_names, part_below, part_blames_less, part_keeps_less, keep_tells)

@@ -5,9 +5,11 @@ use Rattle.std.specs.Prelude.{ℕ, zero, suc, ◌+◌, ◌-◌, ◌/◌, ◌%◌
 abbrev pub places : ℕ
 places = 32
 
+-- the empty set
 abbrev pub none : ℕ
 none = 0
 
+-- whether i is a member
 abbrev pub has : ℕ → ℕ → Bool
 has n i = n / 2 ^ i % 2 == 1
 

@@ -14,6 +14,7 @@ names s r = nat_lt 0 r && has s (r - 1)
 abbrev pub Within : (width s : ℕ) → Type 0
 Within width s = s < 2 ^ width
 
+-- the same as a test
 abbrev pub within : (width s : ℕ) → Bool
 within width s = nat_lt s (2 ^ width)
 
@@ -21,6 +22,7 @@ within width s = nat_lt s (2 ^ width)
 abbrev pub Part : (t s : ℕ) → Type 0
 Part t s = bit_and t s ≡ t
 
+-- the same as a test
 abbrev pub part : (t s : ℕ) → Bool
 part t s = bit_and t s == t
 

@@ -1,26 +1,40 @@
 -- What holds of all sets of requests. Assumes nothing.
-use Rattle.std.specs.Prelude.{◌≡◌, ℕ, ◌<◌, true, ◌≢◌}
-use Rattle.sets.specs.Requests.{names, Within, Part, blame, keep}
+use Rattle.std.specs.Prelude.{◌≡◌, ℕ, ◌<◌, ◌≤◌, true, ◌≢◌, ◌↔◌}
+use Rattle.sets.specs.Requests.{names, Within, Part, everyone, blame, keep}
 
 -- sets with the same requests are the same
 abbrev pub KnownByRequests : Type 0
 KnownByRequests = (s t : ℕ) → ((r : ℕ) → names s r ≡ names t r) → s ≡ t
 
--- a part is what the word says, both ways
+-- all requests of a part are in the set
 abbrev pub PartNames : Type 0
 PartNames = (t s : ℕ) → Part t s → (r : ℕ) → names t r ≡ true → names s r ≡ true
 
+-- and where all of them are, it is a part
 abbrev pub NamesPart : Type 0
 NamesPart = (t s : ℕ) → ((r : ℕ) → names t r ≡ true → names s r ≡ true) → Part t s
+
+-- a set within the width has no request above it
+abbrev pub WithinNames : Type 0
+WithinNames = (width s : ℕ) → Within width s → (r : ℕ) → names s r ≡ true → r ≤ width
+
+-- and one that has none above it lies within the width
+abbrev pub NamesWithin : Type 0
+NamesWithin = (width s : ℕ) → ((r : ℕ) → names s r ≡ true → r ≤ width) → Within width s
+
+-- all requests up to the width are those from 1 to it, and no other
+abbrev pub EveryoneNames : Type 0
+EveryoneNames = (width r : ℕ) → (names (everyone width) r ≡ true) ↔ ((0 < r) × (r ≤ width))
 
 -- a part lies within the width if the whole does
 abbrev pub PartWithin : Type 0
 PartWithin = (width t s : ℕ) → Part t s → Within width s → Within width t
 
--- a proper part has less of both weights
+-- a proper part has less blame weight
 abbrev pub PartBlamesLess : Type 0
 PartBlamesLess = (t s : ℕ) → Part t s → (t ≢ s) → blame t < blame s
 
+-- and less keep weight
 abbrev pub PartKeepsLess : Type 0
 PartKeepsLess = (width t s : ℕ) → Within width s → Part t s → (t ≢ s) → keep width t < keep width s
 
@@ -28,5 +42,6 @@ PartKeepsLess = (width t s : ℕ) → Within width s → Part t s → (t ≢ s) 
 abbrev pub KeepTells : Type 0
 KeepTells = (width s t : ℕ) → Within width s → Within width t → keep width s ≡ keep width t → s ≡ t
 
+-- all of these
 abbrev pub SetLaws : Type 0
-SetLaws = KnownByRequests × PartNames × NamesPart × PartWithin × PartBlamesLess × PartKeepsLess × KeepTells
+SetLaws = KnownByRequests × PartNames × NamesPart × WithinNames × NamesWithin × EveryoneNames × PartWithin × PartBlamesLess × PartKeepsLess × KeepTells

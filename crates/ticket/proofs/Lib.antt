@@ -5,6 +5,7 @@ pub mod Filling
 pub mod HeaderLines
 pub mod Headings
 pub mod Heads
+pub mod EveryRule
 pub mod Letters
 pub mod Risen
 pub mod RuleLines

@@ -7,12 +7,15 @@ use Rattle.ticket.specs.Reading.{reading}
 use Rattle.ticket.specs.Text.{text_of}
 use Rattle.ticket.specs.declared.reader.Header.{Header}
 
+-- the bytes of the ticket
 abbrev pub ticket_a : List ℕ
 ticket_a = codes "ticket=1\nrequests=3\nchecks=100\nrules=5\nh=0,-,0,1\nh=0,-,1,2\nh=1,1\nh=2,0\nh=3,2\nend=ticket\n"
 
+-- its numbers
 abbrev pub header_a : Header
 header_a = record { requests = 3; checks = 100; rules = 5 }
 
+-- a rule of options, by the number of its set
 abbrev pub options_rule : ℕ → Option ℕ → ℕ → Rule
 options_rule owner head s = made.options_rule owner head (mask s)
 
@@ -20,6 +23,7 @@ options_rule owner head s = made.options_rule owner head (mask s)
 abbrev pub rules_a : List Rule
 rules_a = options_rule 0 None 3 ∷ options_rule 0 None 6 ∷ options_rule 1 (Some 1) 0 ∷ options_rule 2 (Some 0) 0 ∷ options_rule 3 (Some 2) 0 ∷ []
 
+-- the definitions read these numbers and rules
 abbrev pub ReadsA : Type 0
 ReadsA = reading ticket_a 96 ≡ Ok (header_a, rules_a)
 

@@ -1,6 +1,7 @@
 pub mod Entries
 pub mod Entry
 pub mod Example
+pub mod EveryRule
 pub mod Lines
 pub mod Reading
 pub mod Refusals

@@ -29,9 +29,11 @@ width_of (Signed z) = z
 abbrev pub set_of : List Value → ℕ
 set_of vs = added_all none (map amount (drop 2 vs))
 
+-- the set of options of a number
 abbrev pub option_set : ℕ → OptionSet
 option_set n = record { members = mask n }
 
+-- the set of faces of a number
 abbrev pub face_set : ℕ → FaceSet
 face_set n = record { members = mask n }
 
@@ -41,5 +43,6 @@ body_of Options vs = body.Options (head_of (slice_index_or vs 1 Dash)) (option_s
 body_of Gaps vs = body.Gap (amount (slice_index_or vs 1 Dash)) (amount (slice_index_or vs 2 Dash)) (width_of (slice_index_or vs 3 Dash))
 body_of Faces vs = body.Faces (amount (slice_index_or vs 1 Dash) == 1) (face_set (set_of vs))
 
+-- the whole rule
 abbrev pub rule_of : Kind → List Value → Rule
 rule_of k vs = record { owner = amount (slice_index_or vs 0 Dash); body = Some (body_of k vs) }

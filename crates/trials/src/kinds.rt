@@ -2,7 +2,7 @@
 use crate::made::{faces, options};
 use crate::played::Call::{Check, Grant};
 use crate::played::Told::{Fit, Granted, Refused, Unfit};
-use crate::played::{Step, Told, play, wanted};
+use crate::played::{Shown, Step, Told, play, wanted};
 use crate::search::Heeded;
 use faces::Faces;
 use gaps::Gaps;
@@ -69,13 +69,14 @@ const OPTIONS: [Case; 19] = [
 ];
 
 // Letter g.
-const GAPS: [Case; 25] = [
+const GAPS: [Case; 26] = [
     // No rule.
     Case(0, "", &[0], &[]),
     Case(32, "", &[0xffff_ffff], &[]),
     // A gap between a mark and itself.
     Case(0, "g=0,3,3,0\n", &[0], &[]),
     Case(0, "g=0,3,3,1\n", &[0], &[]),
+    Case(0, "g=0,3,3,10000\n", &[0], &[]),
     Case(0, "g=0,3,3,-1\n", &[], &[0]),
     Case(0, "g=0,0,0,-10000\n", &[], &[0]),
     Case(1, "g=1,15,15,-1\n", &[0], &[1]),
@@ -235,7 +236,7 @@ fn tickets_of_faces(rt: HostRuntime) -> Result<(), Fail> {
 }
 
 // A list that begins with these rules; the others are blank, so it is a table that is filled and not one that is collected.
-fn list_of<const N: usize, I: Iterator<Item = Rule> + Drop>(rules: I) -> [Rule; N]
+pub fn list_of<const N: usize, I: Iterator<Item = Rule> + Drop>(rules: I) -> [Rule; N]
     requires { I.can_next rules }
 {
     let mut list = [Rule::blank(); N];
@@ -246,7 +247,12 @@ fn list_of<const N: usize, I: Iterator<Item = Rule> + Drop>(rules: I) -> [Rule; 
 }
 
 // Whether the sets 0 to 3 of two requests are fit, by the list in either order.
-fn both_ways(rt: &impl Abort, kind: Kind, mut rules: [Rule; MOST], fit: [bool; 4]) {
+pub fn both_ways<const N: usize>(
+    rt: &impl Abort,
+    kind: Kind,
+    mut rules: [Rule; N],
+    fit: [bool; 4],
+) {
     four_sets(rt, Heeded::new(kind, &rules, 2), fit);
     rules.reverse();
     four_sets(rt, Heeded::new(kind, &rules, 2), fit);
@@ -263,7 +269,7 @@ fn four_sets(rt: &impl Abort, heeded: Heeded<'_>, fit: [bool; 4]) {
 fn chain_of_options(rt: HostRuntime) {
     let first = once(options(1, Some(0), 0));
     let others = (0..31_u32).map(|i| options(0, Some(i + 1), 1 << i));
-    let rules = list_of(first.chain(others).chain([options(2, None, 1 << 31)]));
+    let rules: [Rule; MOST] = list_of(first.chain(others).chain([options(2, None, 1 << 31)]));
     both_ways(&rt, Kind::Options, rules, [true, true, true, false]);
 }
 
@@ -277,6 +283,8 @@ fn chain_of_marks(w: i32, first: i32, second: i32) -> [Rule; MOST] {
 fn chains_of_gaps(rt: HostRuntime) {
     let short = chain_of_marks(-1, 15, 14);
     both_ways(&rt, Kind::Gaps, short, [true, true, false, false]);
+    let slack = chain_of_marks(-1, 16, 15);
+    both_ways(&rt, Kind::Gaps, slack, [true, true, true, true]);
     let long = chain_of_marks(-10_000, 10_000, -10_000);
     both_ways(&rt, Kind::Gaps, long, [true, false, false, false]);
     let loose = chain_of_marks(10_000, 10_000, -10_000);
@@ -289,7 +297,7 @@ fn ring_of_both_ends(rt: HostRuntime) {
     let least = (0..8_u32).map(|i| Rule::gap(0, i, i + 1, -10_000));
     let greatest = (8..16_u32).map(|i| Rule::gap(0, i, (i + 1) % 16, 10_000));
     let asked = [Rule::gap(1, 15, 0, 9_999), Rule::gap(2, 0, 1, -9_999)];
-    let rules = list_of(least.chain(greatest).chain(asked));
+    let rules: [Rule; MOST] = list_of(least.chain(greatest).chain(asked));
     both_ways(&rt, Kind::Gaps, rules, [true, false, true, false]);
 }
 
@@ -298,14 +306,14 @@ fn ring_of_both_ends(rt: HostRuntime) {
 fn chain_of_faces(rt: HostRuntime) {
     let chain = (0..31_u32).map(|i| faces(0, true, 3 << i));
     let asked = [faces(1, true, 0x8000_0001), faces(2, false, 0x8000_0001)];
-    let rules = list_of(chain.chain(asked));
+    let rules: [Rule; MOST] = list_of(chain.chain(asked));
     both_ways(&rt, Kind::Faces, rules, [true, true, false, false]);
 }
 
-const KINDS: [Kind; 3] = [Kind::Options, Kind::Gaps, Kind::Faces];
+pub const KINDS: [Kind; 3] = [Kind::Options, Kind::Gaps, Kind::Faces];
 
 // Rules of that kind that nothing meets.
-fn unmet(kind: Kind, owner: u32) -> [Rule; 2] {
+pub fn unmet(kind: Kind, owner: u32) -> [Rule; 2] {
     match kind {
         Kind::Options => [options(owner, None, 0), Rule::blank()],
         Kind::Gaps => [Rule::gap(owner, 0, 0, -1), Rule::blank()],
@@ -314,7 +322,7 @@ fn unmet(kind: Kind, owner: u32) -> [Rule; 2] {
 }
 
 // What the oracle says of the one set of a ticket with no request. Of kind and rules, since it makes the `Heeded` of them; so `all_blank`.
-fn nobody(kind: Kind, rules: &[Rule]) -> Told {
+pub fn nobody(kind: Kind, rules: &[Rule]) -> Told {
     Heeded::new(kind, rules, 0).told(0)
 }
 
@@ -349,10 +357,11 @@ const THREE: [Step; 10] = [
     Step(Check(3), Fit, None),
 ];
 
-// The same of request 5, which is above the width.
-const ABOVE: [Step; 3] = [
+// The same of requests 4 and 5, which are above the width.
+const ABOVE: [Step; 4] = [
     Step(Check(0), Fit, None),
     Step(Check(7), Fit, None),
+    Step(Check(8), Refused(10, 0), None),
     Step(Check(16), Refused(10, 0), None),
 ];
 
@@ -369,26 +378,40 @@ const NOBODY: [Step; 2] = [
 ];
 
 // Plays with the oracle of each kind, over rules of that kind that nothing meets.
-fn play_each(rt: &impl Abort, owner: u32, width: u32, steps: &[Step]) -> Result<(), Fail> {
+fn play_each(
+    rt: &impl Abort,
+    owner: u32,
+    given: u32,
+    first: Shown,
+    steps: &[Step],
+) -> Result<(), Fail> {
     let [h, g, f] = KINDS.map(|kind| unmet(kind, owner));
-    play(rt, &mut Options::new(&h, width), steps)?;
-    play(rt, &mut Gaps::new(&g, width), steps)?;
-    play(rt, &mut Faces::new(&f, width), steps)
+    play(rt, &mut Options::new(&h, given), first, steps)?;
+    play(rt, &mut Gaps::new(&g, given), first, steps)?;
+    play(rt, &mut Faces::new(&f, given), first, steps)
 }
 
 #[test]
 fn calls_with_three_requests(rt: HostRuntime) -> Result<(), Fail> {
-    play_each(&rt, 3, 3, &THREE)
+    play_each(&rt, 3, 3, (3, None), &THREE)
 }
 
 #[test]
 fn owners_above_the_width(rt: HostRuntime) -> Result<(), Fail> {
-    play_each(&rt, 5, 3, &ABOVE)?;
-    play_each(&rt, 1, 0, &NOBODY)
+    play_each(&rt, 4, 3, (3, None), &ABOVE)?;
+    play_each(&rt, 5, 3, (3, None), &ABOVE)?;
+    play_each(&rt, 1, 0, (0, None), &NOBODY)
 }
 
 // A width, and what it is then.
-const WIDTHS: [(u32, u32); 5] = [(0, 0), (3, 3), (32, 32), (33, 32), (0xffff_ffff, 32)];
+const WIDTHS: [(u32, u32); 6] = [
+    (0, 0),
+    (3, 3),
+    (31, 31),
+    (32, 32),
+    (33, 32),
+    (0xffff_ffff, 32),
+];
 
 #[test]
 fn widths_above_the_widest(rt: HostRuntime) -> Result<(), Fail> {
@@ -397,69 +420,25 @@ fn widths_above_the_widest(rt: HostRuntime) -> Result<(), Fail> {
         assert_eq!(rt; Gaps::new(&[], given).width(), width);
         assert_eq!(rt; Faces::new(&[], given).width(), width);
     }
-    play_each(&rt, 32, 32, &WIDE)?;
-    play_each(&rt, 32, 33, &WIDE)
+    play_each(&rt, 32, 32, (32, None), &WIDE)?;
+    play_each(&rt, 32, 33, (32, None), &WIDE)
 }
 
-// No set of 32 requests is unfit.
-fn all_blank(rt: &impl Abort, kind: Kind, rules: &[Rule]) {
-    let heeded = Heeded::new(kind, rules, 32);
-    assert_eq!(rt; heeded.told(0), Fit);
-    assert_eq!(rt; heeded.told(0xffff_ffff), Fit);
-}
-
-// Records that no rule line can say, which count as blank. Each would make a set unfit if it were heeded, or taken for one with a smaller number.
+// A list may be empty, and longer than that of a ticket.
 #[test]
-fn garbage_of_options(rt: HostRuntime) {
-    all_blank(&rt, Kind::Options, &[options(33, None, 0)]);
-    all_blank(&rt, Kind::Options, &[options(0xffff_ffff, None, 0)]);
-    all_blank(
-        &rt,
-        Kind::Options,
-        &[options(0, Some(32), 0), options(0, None, 1)],
-    );
+fn lists_of_any_length(rt: HostRuntime) {
+    for kind in KINDS {
+        assert_eq!(rt; nobody(kind, &[]), Fit);
+        let rules: [Rule; 500] = list_of(unmet(kind, 2).into_iter());
+        both_ways(&rt, kind, rules, [true, true, false, false]);
+    }
 }
 
+// The chain of fifteen gaps twenty times over; request 1 closes the ring with 0, and request 2 with -1.
 #[test]
-fn garbage_of_gaps(rt: HostRuntime) {
-    let rules = [
-        Rule::gap(33, 0, 0, -1),
-        Rule::gap(0, 16, 16, -1),
-        Rule::gap(0, 16, 0, -1),
-        Rule::gap(0, 0, 16, -1),
-        Rule::gap(0, 0, 0, -10_001),
-        Rule::gap(0, 0, 0, -2_147_483_648),
-        // With the two after it, which count, this would be a ring of -1.
-        Rule::gap(0, 0, 1, 10_001),
-        Rule::gap(0, 1, 2, -10_000),
-        Rule::gap(0, 2, 0, -2),
-    ];
-    all_blank(&rt, Kind::Gaps, &rules);
-}
-
-#[test]
-fn garbage_of_faces(rt: HostRuntime) {
-    all_blank(&rt, Kind::Faces, &[faces(33, true, 1), faces(33, false, 1)]);
-    all_blank(&rt, Kind::Faces, &[faces(0, true, 0)]);
-}
-
-// Options 0 to 8 are on, and the first so many of them are barred.
-fn barred(count: u32) -> [Rule; 10] {
-    let on = (0..9_u32).map(|i| options(0, Some(i), 0));
-    list_of(on.chain([options(0, None, (1 << count.min(9)) - 1)]))
-}
-
-// Faces 0 to 8 lie at the front, and the first so many of them are to be odd.
-fn fronted(count: u32) -> [Rule; 10] {
-    let front = (0..9_u32).map(|i| faces(0, false, 1 << i));
-    list_of(front.chain([faces(0, true, (1 << count.min(9)) - 1)]))
-}
-
-// Eight members are heeded, nine not.
-#[test]
-fn members_of_a_rule(rt: HostRuntime) {
-    assert_eq!(rt; nobody(Kind::Options, &barred(8)), Unfit);
-    assert_eq!(rt; nobody(Kind::Options, &barred(9)), Fit);
-    assert_eq!(rt; nobody(Kind::Faces, &fronted(8)), Unfit);
-    assert_eq!(rt; nobody(Kind::Faces, &fronted(9)), Fit);
+fn chain_of_gaps_again_and_again(rt: HostRuntime) {
+    let chain = (0..300_u32).map(|i| Rule::gap(0, i % 15, i % 15 + 1, -500));
+    let asked = [Rule::gap(1, 15, 0, 7_500), Rule::gap(2, 15, 0, 7_499)];
+    let rules: [Rule; 500] = list_of(chain.chain(asked));
+    both_ways(&rt, Kind::Gaps, rules, [true, true, false, false]);
 }

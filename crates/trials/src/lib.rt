@@ -6,10 +6,14 @@ mod agreed;
 #[cfg(test)]
 mod asked;
 #[cfg(test)]
+mod garbage;
+#[cfg(test)]
 mod kinds;
 #[cfg(test)]
 mod layered;
 mod made;
+#[cfg(test)]
+mod nested;
 #[cfg(test)]
 mod played;
 mod probe;

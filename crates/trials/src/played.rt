@@ -59,14 +59,27 @@ fn grant<O: Oracle>(oracle: &mut O, checks: u32) -> Told {
         .map_or_else(Told::from, |()| Told::Granted)
 }
 
-// A switch, since the steps stand in tables: see `Call`.
-pub fn play<O: Oracle>(rt: &impl Abort, oracle: &mut O, steps: &[Step]) -> Result<(), Fail> {
+// What an oracle shows unasked: its width, and what is left.
+pub type Shown = (u32, Option<u32>);
+
+fn shown<O: Oracle>(oracle: &O) -> Shown {
+    (oracle.width(), oracle.left())
+}
+
+// What it shows at first is looked at too; the width stays. A switch, since the steps stand in tables: see `Call`.
+pub fn play<O: Oracle>(
+    rt: &impl Abort,
+    oracle: &mut O,
+    first: Shown,
+    steps: &[Step],
+) -> Result<(), Fail> {
+    assert_eq!(rt; shown(oracle), first);
     for Step(call, told, left) in steps {
         let answer = match call {
             Call::Check(bits) => ask(oracle, *bits),
             Call::Grant(checks) => grant(oracle, *checks),
         };
-        assert_eq!(rt; (answer, oracle.left()), (*told, *left));
+        assert_eq!(rt; (answer, shown(oracle)), (*told, (first.0, *left)));
     }
     Ok(())
 }

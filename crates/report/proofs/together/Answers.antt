@@ -1,21 +1,23 @@
-use Rattle.std.proofs.Common.{◌≡◌, Result, sym, ap, ◌∙◌, subst}
-use Rattle.oracle.specs.Asking.{check_answer}
-use Rattle.oracle.specs.declared.CheckRefusal.{CheckRefusal}
-use Rattle.oracle.specs.declared.Verdict.{Verdict}
-use Rattle.report.specs.Piles.{piled}
-use Rattle.report.specs.Together.{together, ToldTogether}
-use Rattle.report.proofs.Telling.{told_together}
+use Rattle.std.proofs.Common.{Err, ap, ◌∙◌}
+use Rattle.report.specs.Piles.{pile_meaning}
+use Rattle.report.specs.declared.Outcome.TheVariants.{Fit}
+use Rattle.report.proofs.Telling.{told_fit, told_unfit, told_spent, told_exact}
 use Rattle.report.proofs.together.Goals as goal
 
-pub returns : goal.returns
-unfolding together
-returns c =
-    let rules = c.args.rules.now in
-    let width = c.args.width in
-    let checks = c.args.checks in
-    let answer : c.check.result ≡ together rules width checks =
-    c.check.ensures.checked.0
-    ∙ ap (λ m. check_answer m c.all.result.bits) c.pile-oracle.ensures.meant
-    ∙ ap (check_answer (piled rules width checks)) c.all.ensures in
-    let P : Result Verdict CheckRefusal → Type 0 = λ r. ToldTogether rules width checks r in
-    record { answer = answer; exact = subst P (sym answer) (told_together rules width checks) }
+pub returns-in-Ok-clause-answer : goal.returns-in-Ok-clause-answer
+returns-in-Ok-clause-answer c =
+    told_fit c.args.rules.now c.args.width c.args.checks (pile_meaning c.pile-oracle.result) c.all.result.bits c.check.result c.in-Ok.verdict
+    c.in-Ok.is c.if-verdict.true c.check.ensures.checked.0 c.pile-oracle.ensures.meant c.all.ensures
+
+pub returns-in-Ok-2-clause-answer : goal.returns-in-Ok-2-clause-answer
+returns-in-Ok-2-clause-answer c =
+    told_unfit c.args.rules.now c.args.width c.args.checks (pile_meaning c.pile-oracle.result) c.all.result.bits c.check.result c.in-Ok.verdict
+    c.in-Ok.is c.if-verdict.false c.check.ensures.checked.0 c.pile-oracle.ensures.meant c.all.ensures
+
+pub returns-in-Err-Spent-clause-answer : goal.returns-in-Err-Spent-clause-answer
+returns-in-Err-Spent-clause-answer c =
+    told_spent c.args.rules.now c.args.width c.args.checks (pile_meaning c.pile-oracle.result) c.all.result.bits c.check.result c.in-Err-Spent.label
+    (c.in-Err-Spent.is ∙ ap Err c.in-Err-Spent.field-0-is) c.check.ensures.checked.0 c.pile-oracle.ensures.meant c.all.ensures
+
+pub returns-in-Ok-clause-exact : goal.returns-in-Ok-clause-exact
+returns-in-Ok-clause-exact c = told_exact c.args.rules.now c.args.width c.args.checks Fit (returns-in-Ok-clause-answer c)

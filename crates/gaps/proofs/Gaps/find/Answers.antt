@@ -1,5 +1,5 @@
 use Rattle.sets.specs.Sets.{bits_of}
-use Rattle.rules.specs.Rounds.{placed}
+use Rattle.rules.specs.Choices.{placed}
 use Rattle.rules.specs.declared.Kind.TheVariants as kind
 use Rattle.rules.proofs.Fewer.{found_fit}
 use Rattle.rules.proofs.GapsDecided.{gaps_decided}

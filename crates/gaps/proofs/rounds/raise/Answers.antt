@@ -1,7 +1,7 @@
 use Rattle.std.proofs.Common.{◌≡◌, set, ◌-ℤ◌, ap, ◌∙◌, w32, SFits, rules}
 use Rattle.std.specs.Int.{int_max}
 use Rattle.std.proofs.lemmas.Int.{to_z-of_z}
-use Rattle.rules.specs.Rounds.{place}
+use Rattle.rules.specs.Choices.{place}
 use Rattle.gaps.proofs.Lifting.{lifted_max}
 use Rattle.gaps.proofs.rounds.raise.Goals as goal
 
