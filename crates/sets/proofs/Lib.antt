@@ -1,6 +1,8 @@
 pub mod Adding
 pub mod Bounds
 pub mod Digits
+pub mod Firsts
+pub mod Halves
 pub mod Naming
 pub mod Parts
 pub mod Rising

@@ -96,7 +96,7 @@ low_away n i away =
     sym (zero-add (n % 2 ^ i)) ∙ ap (λ b. b + n % 2 ^ i) (sym (zero-mul (2 ^ i)) ∙ ap (λ b. b * 2 ^ i) (sym off)) ∙ sym (low_more n i)
 
 -- the low bits of n, and the members that follow, are the low bits further up
-added_members_from : (count i k n : ℕ) → i + count ≡ k → k ≤ 32 → added_all (n % 2 ^ i) (members_from count i n) ≡ n % 2 ^ k
+pub added_members_from : (count i k n : ℕ) → i + count ≡ k → k ≤ 32 → added_all (n % 2 ^ i) (members_from count i n) ≡ n % 2 ^ k
 added_members_from zero i k n end top = ap (λ e. n % 2 ^ e) (omega arith)
 added_members_from (suc count) i k n end top =
     let later : added_all (n % 2 ^ suc i) (members_from count (suc i) n) ≡ n % 2 ^ k = added_members_from count (suc i) k n (omega arith) top in

@@ -17,10 +17,10 @@ unfolding size
 ones_size n small = ones_size_in 32 n small
 
 -- what is left of the bits from i on without the first
-rest_half : (n i : ℕ) → n / 2 ^ i / 2 ≡ n / 2 ^ suc i
+pub rest_half : (n i : ℕ) → n / 2 ^ i / 2 ≡ n / 2 ^ suc i
 rest_half n i = shr-shr n i 1 ∙ ap (λ k. n / 2 ^ k) (omega arith)
 
-size_members_from : (count i n : ℕ) → size_in count (n / 2 ^ i) ≡ length (members_from count i n)
+pub size_members_from : (count i n : ℕ) → size_in count (n / 2 ^ i) ≡ length (members_from count i n)
 size_members_from zero i n = refl
 size_members_from (suc count) i n =
     let rest : size_in count (n / 2 ^ i / 2) ≡ length (members_from count (suc i) n) = ap (size_in count) (rest_half n i) ∙ size_members_from count (suc i) n in

@@ -1,12 +1,15 @@
--- The laws of sets of requests: a set is known by its requests, the width bounds them, a proper part weighs less, and the keep weight tells sets apart. Assumes nothing.
-use Rattle.std.proofs.Common.{◌≡◌, ℕ, zero, suc, ◌+◌, ◌-◌, ◌*◌, ◌%◌, ◌^◌, ◌<◌, ◌≤◌, Bool, true, false, cond, ◌&&◌, eqb, ltb, sym, refl, ap, ◌∙◌, inl, inr, pow-suc, pow_pos, arith, lit<}
+-- The laws of sets of requests: a set is known by its requests, the width bounds them, a proper part weighs less, the keep weight tells sets apart, and what a union, a set without another and a lower half name. Assumes nothing.
+use Rattle.std.proofs.Common.{◌≡◌, ℕ, zero, suc, ◌+◌, ◌-◌, ◌*◌, ◌%◌, ◌^◌, ◌<◌, ◌≤◌, Bool, true, false, not, cond, ◌&&◌, ◌||◌, eqb, ltb, sym, refl, ap, ◌∙◌, inl, inr, pow-suc, pow_pos, arith, lit<}
 use Rattle.std.proofs.lemmas.Bool.{cond_both, cases_lt, cases_eq, ltb-true, lt-ltb, and_parts, and_from, and_right, true≢false}
+use Rattle.std.proofs.lemmas.Nat.{mod_below}
 use Rattle.std.proofs.lemmas.Nat.Bits.{ones_shr}
-use Rattle.sets.specs.Members.{has}
+use Rattle.sets.specs.Members.{none, has, minus, lower}
 use Rattle.sets.specs.Requests.{names, Within, Part, everyone, keep_from, keep}
-use Rattle.sets.specs.SetLaws.{KnownByRequests, PartNames, NamesPart, WithinNames, NamesWithin, EveryoneNames, PartBlamesLess, PartKeepsLess, KeepTells, SetLaws}
+use Rattle.sets.specs.SetLaws.{KnownByRequests, PartNames, NamesPart, WithinNames, NamesWithin, EveryoneNames, PartBlamesLess, PartKeepsLess, KeepTells, UnionNames, CommonNames, MinusNames, EmptyNames, LowerHalf, SetLaws}
 use Rattle.sets.proofs.Bounds.{has_past}
-use Rattle.sets.proofs.Parts.{same_members, part_has, has_part, part_le, part_below}
+use Rattle.sets.proofs.Halves.{has_minus, has_cut, lower_cut, lower_part, size_lower}
+use Rattle.sets.proofs.Sizes.{ones_size}
+use Rattle.sets.proofs.Parts.{has_and, has_or, same_members, part_has, has_part, part_le, part_below}
 
 -- request i + 1 is the member i
 names_next : (s i : ℕ) → names s (suc i) ≡ has s i
@@ -62,10 +65,10 @@ part_blames_less : PartBlamesLess
 part_blames_less t s p other = omega (arith, part_le t s p)
 
 -- the count last requests weigh less than 2 ^ count together, so the first request where two sets differ decides
-first_weighs : (count r width : ℕ) → r + suc count ≡ suc width → 2 ^ (width - r) ≡ 2 ^ count
+pub first_weighs : (count r width : ℕ) → r + suc count ≡ suc width → 2 ^ (width - r) ≡ 2 ^ count
 first_weighs count r width end = ap (λ e. 2 ^ e) (omega arith)
 
-last_weigh : (count r width s : ℕ) → r + count ≡ suc width → keep_from count r width s < 2 ^ count
+pub last_weigh : (count r width s : ℕ) → r + count ≡ suc width → keep_from count r width s < 2 ^ count
 last_weigh zero r width s end = lit< tt
 last_weigh (suc count) r width s end =
     let rest : keep_from count (suc r) width s < 2 ^ count = last_weigh count (suc r) width s (omega arith) in
@@ -119,5 +122,76 @@ part_keeps_less width t s small p other =
     let apart : keep width t ≡ keep width s → ⊥ = λ e. other (keep_tells width t s (part_below width t s p small) small e) in
     omega (arith, part_keeps width 1 width t s p)
 
+-- a request of a union, and of one set without another
+or_and : (a b c : Bool) → (a && (b || c)) ≡ ((a && b) || (a && c))
+or_and true b c = refl
+or_and false b c = refl
+
+minus_and : (a b c : Bool) → (a && (b && not c)) ≡ ((a && b) && not (a && c))
+minus_and true b c = refl
+minus_and false b c = refl
+
+pub union_names : UnionNames
+union_names s t r = ap (λ b. ltb 0 r && b) (has_or s t (r - 1)) ∙ or_and (ltb 0 r) (has s (r - 1)) (has t (r - 1))
+
+-- a request is in both if it is one and its bit is set in both
+both_and : (a b c : Bool) → (a && (b && c)) ≡ ((a && b) && (a && c))
+both_and true b c = refl
+both_and false b c = refl
+
+pub common_names : CommonNames
+common_names s t r = ap (λ b. ltb 0 r && b) (has_and s t (r - 1)) ∙ both_and (ltb 0 r) (has s (r - 1)) (has t (r - 1))
+
+-- there is no request in the empty set
+pub empty_names : EmptyNames
+empty_names r = and_right (ltb 0 r) (has none (r - 1)) (has_past 0 none (r - 1) (lit< tt) (omega arith))
+
+pub minus_names : MinusNames
+minus_names s t r = ap (λ b. ltb 0 r && b) (has_minus s t (r - 1)) ∙ minus_and (ltb 0 r) (has s (r - 1)) (has t (r - 1))
+
+-- a member below the place where the lower half ends is none of the rest, and there is none of the lower half from there on
+low_ends : (s k i : ℕ) → lower s ≡ s % 2 ^ k → has (lower s) i ≡ true → i < k
+low_ends s k i cut there =
+    elim (cases_lt i k) [
+      | inl low ↦ low
+      | inr past ↦ absurd (true≢false (sym there ∙ ap (λ n. has n i) cut ∙ has_past k (s % 2 ^ k) i (mod_below s (2 ^ k) (pow_pos k)) past))
+    ]
+
+high_begins : (s k i : ℕ) → lower s ≡ s % 2 ^ k → has (minus s (lower s)) i ≡ true → k ≤ i
+high_begins s k i cut there =
+    let both = and_parts (has s i) (not (has (lower s) i)) (sym (has_minus s (lower s) i) ∙ there) in
+    elim (cases_lt i k) [
+      | inl low ↦ absurd (true≢false (sym both.1 ∙ ap not (ap (λ n. has n i) cut ∙ has_cut s k i low ∙ both.0)))
+      | inr past ↦ past
+    ]
+
+lower_half : LowerHalf
+lower_half s small =
+    let place = lower_cut s small in (
+      lower_part s small,
+      size_lower s small,
+      λ q r low high.
+          let first = and_parts (ltb 0 q) (has (lower s) (q - 1)) low in
+          let second = and_parts (ltb 0 r) (has (minus s (lower s)) (r - 1)) high in
+          omega (arith, ltb-true 0 q first.0, ltb-true 0 r second.0, low_ends s place.0 (q - 1) place.1 first.1, high_begins s place.0 (r - 1) place.1 second.1),
+    )
+
 pub set_laws : SetLaws
-set_laws = (known_by_requests, part_names, names_part, within_names, names_within, everyone_names, part_below, part_blames_less, part_keeps_less, keep_tells)
+set_laws = (
+  known_by_requests,
+  part_names,
+  names_part,
+  within_names,
+  names_within,
+  everyone_names,
+  part_below,
+  part_blames_less,
+  part_keeps_less,
+  keep_tells,
+  union_names,
+  common_names,
+  minus_names,
+  empty_names,
+  ones_size,
+  lower_half,
+)

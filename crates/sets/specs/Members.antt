@@ -1,5 +1,5 @@
 -- A set of small numbers as one number: i is a member of n if n has the bit worth 2 ^ i. Assumes nothing.
-use Rattle.std.specs.Prelude.{ℕ, zero, suc, ◌+◌, ◌-◌, ◌/◌, ◌%◌, ◌^◌, Bool, cond, ◌&&◌, List, [], ◌∷◌, ◌==◌, bit_or, nat_le, nat_lt}
+use Rattle.std.specs.Prelude.{ℕ, zero, suc, ◌+◌, ◌-◌, ◌/◌, ◌%◌, ◌^◌, Bool, cond, ◌&&◌, List, [], ◌∷◌, take, ◌==◌, bit_and, bit_or, nat_le, nat_lt}
 
 -- a set holds numbers below this one
 abbrev pub places : ℕ
@@ -47,3 +47,11 @@ size_in (suc count) n = n % 2 + size_in count (n / 2)
 -- how many members there are
 unfoldable pub size : ℕ → ℕ
 size n = size_in places n
+
+-- the members of n that m does not have
+abbrev pub minus : (n m : ℕ) → ℕ
+minus n m = n - bit_and n m
+
+-- the first half of the members by number, rounded down
+unfoldable pub lower : ℕ → ℕ
+lower n = added_all none (take (size n / 2) (members n))

@@ -1,6 +1,6 @@
 -- A set of requests as one number: request r, counted from 1, is the bit worth 2 ^ (r - 1). Assumes nothing.
-use Rattle.std.specs.Prelude.{◌≡◌, ℕ, zero, suc, ◌+◌, ◌-◌, ◌^◌, ◌<◌, Bool, cond, ◌&&◌, ◌==◌, bit_and, nat_lt}
-use Rattle.sets.specs.Members.{has}
+use Rattle.std.specs.Prelude.{◌≡◌, ℕ, zero, suc, ◌+◌, ◌-◌, ◌^◌, ◌<◌, ◌≤◌, Bool, true, cond, ◌&&◌, ◌==◌, Option, Some, None, bit_and, nat_lt}
+use Rattle.sets.specs.Members.{none, has}
 
 -- the most requests of a ticket
 abbrev pub widest : ℕ
@@ -25,6 +25,11 @@ Part t s = bit_and t s ≡ t
 -- the same as a test
 abbrev pub part : (t s : ℕ) → Bool
 part t s = bit_and t s == t
+
+-- a request that is told as the first of a set is in it, and none before it; and where none is told there is none
+abbrev pub IsFirst : (s : ℕ) → Option ℕ → Type 0
+IsFirst s None = s ≡ none
+IsFirst s (Some r) = (names s r ≡ true) × ((q : ℕ) → names s q ≡ true → r ≤ q)
 
 -- all requests up to the width
 abbrev pub everyone : (width : ℕ) → ℕ

@@ -1,6 +1,7 @@
 -- What holds of all sets of requests. Assumes nothing.
-use Rattle.std.specs.Prelude.{◌≡◌, ℕ, ◌<◌, ◌≤◌, true, ◌≢◌, ◌↔◌}
-use Rattle.sets.specs.Requests.{names, Within, Part, everyone, blame, keep}
+use Rattle.std.specs.Prelude.{◌≡◌, ℕ, ◌/◌, ◌<◌, ◌≤◌, true, not, ◌&&◌, ◌||◌, ◌≢◌, ◌↔◌, false, bit_and, bit_or, count_ones}
+use Rattle.sets.specs.Members.{none, size, minus, lower}
+use Rattle.sets.specs.Requests.{widest, names, Within, Part, everyone, blame, keep}
 
 -- sets with the same requests are the same
 abbrev pub KnownByRequests : Type 0
@@ -42,6 +43,34 @@ PartKeepsLess = (width t s : ℕ) → Within width s → Part t s → (t ≢ s) 
 abbrev pub KeepTells : Type 0
 KeepTells = (width s t : ℕ) → Within width s → Within width t → keep width s ≡ keep width t → s ≡ t
 
+-- a request is in the union of two sets where it is in either
+abbrev pub UnionNames : Type 0
+UnionNames = (s t r : ℕ) → names (bit_or s t) r ≡ (names s r || names t r)
+
+-- in what two sets have in common where it is in both
+abbrev pub CommonNames : Type 0
+CommonNames = (s t r : ℕ) → names (bit_and s t) r ≡ (names s r && names t r)
+
+-- and in the first without the second where it is in the first and not in the second
+abbrev pub MinusNames : Type 0
+MinusNames = (s t r : ℕ) → names (minus s t) r ≡ (names s r && not (names t r))
+
+-- in the empty set there is none
+abbrev pub EmptyNames : Type 0
+EmptyNames = (r : ℕ) → names none r ≡ false
+
+-- the ones of a number are as many as the requests of its set
+abbrev pub OnesCount : Type 0
+OnesCount = (s : ℕ) → Within widest s → count_ones s ≡ size s
+
+-- the lower half is a part of the set, has half of its requests, rounded down, and each of them is below each of the others
+abbrev pub LowerHalf : Type 0
+LowerHalf =
+    (s : ℕ) → Within widest s
+    → Part (lower s) s × (size (lower s) ≡ size s / 2) × ((q r : ℕ) → names (lower s) q ≡ true → names (minus s (lower s)) r ≡ true → q < r)
+
 -- all of these
 abbrev pub SetLaws : Type 0
-SetLaws = KnownByRequests × PartNames × NamesPart × WithinNames × NamesWithin × EveryoneNames × PartWithin × PartBlamesLess × PartKeepsLess × KeepTells
+SetLaws =
+    KnownByRequests × PartNames × NamesPart × WithinNames × NamesWithin × EveryoneNames × PartWithin × PartBlamesLess × PartKeepsLess × KeepTells
+    × UnionNames × CommonNames × MinusNames × EmptyNames × OnesCount × LowerHalf

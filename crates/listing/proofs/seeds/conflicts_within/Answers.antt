@@ -1,0 +1,13 @@
+use Rattle.std.proofs.Common.{arith}
+use Rattle.std.proofs.lemmas.Grind.{common_steps}
+use Rattle.std.proofs.lemmas.List.Elements.{filter_map-append}
+use Rattle.listing.proofs.seeds.conflicts_within.Goals as goal
+use Rattle.listing.proofs.seeds.conflicts_within.Goals.{in-Conflict+then-is_part_of, in-Conflict+else-is_part_of, in_default}
+
+pub loop-line-preserved : goal.loop-line-preserved
+loop-line-preserved c =
+    elim c.match-line.branch [
+      | in-Conflict+then-is_part_of w ↦ grind (arith, common_steps, filter_map-append)
+      | in-Conflict+else-is_part_of w ↦ grind (arith, common_steps, filter_map-append)
+      | in_default w ↦ grind (arith, common_steps, filter_map-append)
+    ]
