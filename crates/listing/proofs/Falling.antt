@@ -77,7 +77,7 @@ unlisted_follow before width fit lines down are were m maximal unlisted =
     all_by_cuts (λ x. Falls before x (relaxation m)) lines (one_follows before width lines m were (maximal.0.0, left))
 
 foremost_fall : ForemostFall
-foremost_fall before width fit lines order down are were = (relaxations_fall before width lines were, unlisted_follow before width fit lines down are were)
+foremost_fall before width fit lines down are were = (relaxations_fall before width lines were, unlisted_follow before width fit lines down are were)
 
 pub line_laws : LineLaws
 line_laws = (line_facts.0, line_facts.1, line_facts.2, foremost_fall)

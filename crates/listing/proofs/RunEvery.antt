@@ -130,5 +130,5 @@ module _ (before : ℕ → ℕ → Bool) (width : ℕ) (fit : ℕ → Bool) (giv
   pub listing_is : (st : State) → IsReached before width fit st → IsListing before width fit st.lines
   listing_is st r =
       let l : AreListed before width fit st.lines = r.listed in
-      let falls = given.lines.3 before width fit st.lines given.order given.down (all_true l) l.foremost in
+      let falls = given.lines.3 before width fit st.lines given.down (all_true l) l.foremost in
       record { few = l.few; once = l.once; due = l.due; preferred = l.preferred; fall = falls.0; follow = falls.1 }

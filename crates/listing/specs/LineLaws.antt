@@ -34,7 +34,7 @@ WereForemost before width lines =
 -- where each listed relaxation was the foremost unexplored set when it was listed, both hold
 abbrev pub ForemostFall : Type 0
 ForemostFall =
-    (before : ℕ → ℕ → Bool) (width : ℕ) (fit : ℕ → Bool) (lines : List Line) → IsOrder width before → Downward width fit → AreTrue width fit lines
+    (before : ℕ → ℕ → Bool) (width : ℕ) (fit : ℕ → Bool) (lines : List Line) → Downward width fit → AreTrue width fit lines
     → WereForemost before width lines → RelaxationsFall before lines × UnlistedFollow before width fit lines
 
 -- all of these

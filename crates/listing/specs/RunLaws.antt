@@ -32,7 +32,7 @@ ListsNoMore all_listed = Unit {0}
 ListsNoMore no_room = Unit {0}
 ListsNoMore (refused s) = ⊥
 
--- what holds of a further NEXT, with any number of checks answered: it grows the listing by what it says and nothing else, says that all is
+-- what holds of a further NEXT, with any number of checks allowed: it grows the listing by what it says and nothing else, says that all is
 -- listed exactly where the listing is whole, and that there is no room exactly where 512 lines are listed and it is not; unless a check of
 -- it was refused, no more checks were answered than the bound; and what is refused lies within the width
 pub record IsTurn (before : ℕ → ℕ → Bool) (width : ℕ) (fit : ℕ → Bool) (st : State) (said : Said) (left : State) : Type 0 where
@@ -123,7 +123,8 @@ WithinDecides =
     (before : ℕ → ℕ → Bool) (width : ℕ) (fit same : ℕ → Bool) (allowed : List ℕ) (g : ℕ) → width ≤ widest → IsOrder width before → Downward width fit
     → ((s : ℕ) → Within width s → same s ≡ fit s)
     → let st = after before width fit allowed start in
-    (after before width same allowed start ≡ st) × (turn before width same g st ≡ turn before width fit g st) × (sets_checked before width same g st ≡ sets_checked before width fit g st)
+    (after before width same allowed start ≡ st) × (turn before width same g st ≡ turn before width fit g st)
+    × (sets_checked before width same g st ≡ sets_checked before width fit g st)
 
 -- all of these
 abbrev pub RunLaws : Type 0

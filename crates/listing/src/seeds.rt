@@ -26,6 +26,7 @@ fn is_explored(lines: &[Line], set: Set) -> bool
 }
 
 // Keeps the listed conflicts that lie within a set.
+#[tactic(auto, using(crate::proofs::SeedLists::kept_in_turn))]
 fn conflicts_within(lines: &[Line], set: Set, conflicts: &mut Sets)
     requires { length lines.now ≤ MOST_LINES }
     ensures { conflicts.new.items ≡ conflicts_of (bits_of set) lines.now }
@@ -41,6 +42,7 @@ fn conflicts_within(lines: &[Line], set: Set, conflicts: &mut Sets)
 }
 
 // Keeps what the listed relaxations that contain the kept requests leave out of the free ones.
+#[tactic(auto, using(crate::proofs::SeedLists::kept_in_turn))]
 fn drops_beyond(lines: &[Line], kept: Set, free: Set, drops: &mut Sets)
     requires { length lines.now ≤ MOST_LINES }
     ensures { drops.new.items ≡ drops_of (bits_of kept) (bits_of free) lines.now }
