@@ -1,173 +1,9 @@
-// The same search in plain Rust: sets as u32, what is still to be settled in one stack of lists.
+// The seeds of the same families in plain Rust.
 // Without an argument it prints seeds of all families; with the name of one, how many lines it has, how many checks they took, and the longest time of one seed.
+mod search;
+
+use search::{Halved, Line, MOST_LINES, Search, halve};
 use std::time::{Duration, Instant};
-
-#[derive(Clone, Copy)]
-enum Line {
-    Conflict(u32),
-    Relaxation(u32),
-}
-
-struct Search {
-    stack: Vec<u32>,
-}
-
-fn shortest(sets: &[u32], free: u32) -> Option<u32> {
-    sets.iter().map(|set| set & free).min_by_key(|set| set.count_ones())
-}
-
-fn commonest(of: u32, sets: &[u32], others: &[u32]) -> u32 {
-    let mut rest = of;
-    let mut best = 0;
-    let mut most = 0;
-    while rest != 0 {
-        let one = rest & rest.wrapping_neg();
-        rest ^= one;
-        let times = sets.iter().chain(others).filter(|set| **set & one != 0).count();
-        if best == 0 || times > most {
-            best = one;
-            most = times;
-        }
-    }
-    best
-}
-
-impl Search {
-    // What is still to be settled: the conflicts and the drops lie on the stack, each from a place to another.
-    fn settle(&mut self, free: u32, conflicts: (usize, usize), drops: (usize, usize)) -> Option<u32> {
-        let conflict = shortest(&self.stack[conflicts.0..conflicts.1], free);
-        let drop = shortest(&self.stack[drops.0..drops.1], free);
-        if conflict == Some(0) || drop == Some(0) {
-            return None;
-        }
-        let Some(conflict) = conflict else { return Some(free) };
-        let Some(drop) = drop else { return Some(0) };
-        let drop_first = drop.count_ones() <= conflict.count_ones();
-        let of = if drop_first { drop } else { conflict };
-        let one = commonest(of, &self.stack[conflicts.0..conflicts.1], &self.stack[drops.0..drops.1]);
-        for with in [drop_first, !drop_first] {
-            let found = if with { self.with(free, one, conflicts, drops) } else { self.without(free, one, conflicts, drops) };
-            if found.is_some() {
-                return found;
-            }
-        }
-        None
-    }
-
-    fn lacking(&mut self, sets: (usize, usize), one: u32) -> (usize, usize) {
-        let start = self.stack.len();
-        for i in sets.0..sets.1 {
-            if self.stack[i] & one == 0 {
-                self.stack.push(self.stack[i]);
-            }
-        }
-        (start, self.stack.len())
-    }
-
-    fn with(&mut self, free: u32, one: u32, conflicts: (usize, usize), drops: (usize, usize)) -> Option<u32> {
-        let start = self.stack.len();
-        let rest = self.lacking(drops, one);
-        let found = self.settle(free & !one, conflicts, rest);
-        self.stack.truncate(start);
-        found.map(|set| set | one)
-    }
-
-    fn without(&mut self, free: u32, one: u32, conflicts: (usize, usize), drops: (usize, usize)) -> Option<u32> {
-        let start = self.stack.len();
-        let rest = self.lacking(conflicts, one);
-        let found = self.settle(free & !one, rest, drops);
-        self.stack.truncate(start);
-        found
-    }
-
-    fn find(&mut self, lines: &[Line], kept: u32, free: u32) -> Option<u32> {
-        self.stack.clear();
-        for line in lines {
-            if let Line::Conflict(conflict) = line {
-                if conflict & !(kept | free) == 0 {
-                    self.stack.push(*conflict);
-                }
-            }
-        }
-        let conflicts = (0, self.stack.len());
-        for line in lines {
-            if let Line::Relaxation(relaxation) = line {
-                if kept & !relaxation == 0 {
-                    self.stack.push(free & !relaxation);
-                }
-            }
-        }
-        let drops = (conflicts.1, self.stack.len());
-        self.settle(free, conflicts, drops).map(|set| kept | set)
-    }
-
-    fn seed(&mut self, width: u32, lines: &[Line]) -> Option<u32> {
-        let mut free = if width == 32 { u32::MAX } else { (1 << width) - 1 };
-        let mut kept = 0;
-        let mut hand = self.find(lines, kept, free)?;
-        for r in 0..width {
-            let one = 1 << r;
-            free &= !one;
-            if hand & one != 0 {
-                kept |= one;
-                continue;
-            }
-            let wider = hand | one;
-            let better = if !explored(lines, wider) { Some(wider) } else { self.find(lines, kept | one, free) };
-            if let Some(set) = better {
-                kept |= one;
-                hand = set;
-            }
-        }
-        Some(hand)
-    }
-}
-
-fn explored(lines: &[Line], set: u32) -> bool {
-    lines.iter().any(|line| match line {
-        Line::Conflict(conflict) => conflict & !set == 0,
-        Line::Relaxation(relaxation) => set & !relaxation == 0,
-    })
-}
-
-fn lower_half(set: u32) -> u32 {
-    let mut rest = set;
-    for _ in 0..set.count_ones() / 2 {
-        rest &= rest - 1;
-    }
-    set ^ rest
-}
-
-enum Halved<'a> {
-    Asks(u32),
-    Ends(u32, &'a [bool]),
-}
-
-fn halve(held: u32, added: u32, part: u32, answers: &[bool]) -> Halved<'_> {
-    if added == 0 {
-        return take_apart(held, part, answers);
-    }
-    match answers {
-        [] => Halved::Asks(held),
-        [true, rest @ ..] => take_apart(held, part, rest),
-        [false, rest @ ..] => Halved::Ends(0, rest),
-    }
-}
-
-fn take_apart(held: u32, part: u32, answers: &[bool]) -> Halved<'_> {
-    if part.count_ones() <= 1 {
-        return Halved::Ends(part, answers);
-    }
-    let first = lower_half(part);
-    let second = part & !first;
-    match halve(held | first, first, second, answers) {
-        Halved::Asks(set) => Halved::Asks(set),
-        Halved::Ends(upper, rest) => match halve(held | upper, upper, first, rest) {
-            Halved::Asks(set) => Halved::Asks(set),
-            Halved::Ends(below, rest) => Halved::Ends(below | upper, rest),
-        },
-    }
-}
 
 fn two(a: u32, b: u32) -> u32 {
     1 << (a - 1) | 1 << (b - 1)
@@ -206,13 +42,13 @@ fn shown(set: u32) -> String {
 
 // The seeds of a family with its minimal conflicts listed, each listed in turn as a relaxation: the first two, and the last.
 fn given(name: &str) {
-    let mut search = Search { stack: Vec::with_capacity(34 * 512) };
+    let mut search = Search::new();
     let mut lines: Vec<Line> = family(name).into_iter().map(Line::Conflict).collect();
     println!("family={name}");
     let mut last = None;
     let mut count = 0;
     while let Some(seed) = search.seed(32, &lines) {
-        if lines.len() >= 512 {
+        if lines.len() >= MOST_LINES {
             break;
         }
         lines.push(Line::Relaxation(seed));
@@ -234,8 +70,8 @@ fn main() {
         return FAMILIES.iter().for_each(|name| given(name));
     };
     let conflicts = family(&name);
-    let mut search = Search { stack: Vec::with_capacity(34 * 512) };
-    let mut lines: Vec<Line> = Vec::with_capacity(512);
+    let mut search = Search::new();
+    let mut lines: Vec<Line> = Vec::with_capacity(MOST_LINES);
     let mut answers: Vec<bool> = Vec::with_capacity(64);
     let mut checks = 1;
     let mut worst = Duration::ZERO;
@@ -245,7 +81,7 @@ fn main() {
         let seed = search.seed(32, &lines);
         worst = worst.max(start.elapsed());
         let Some(seed) = seed else { break };
-        if lines.len() >= 512 {
+        if lines.len() >= MOST_LINES {
             break;
         }
         checks += 1;

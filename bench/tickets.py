@@ -1,5 +1,5 @@
 #!/usr/bin/env python3
-# Writes the tickets that are measured: 96 rules of one letter, or of all three, with 32 requests.
+# Writes the tickets that bench/measure takes, `tickets.py KIND CHECKS`: 96 rules of one letter, or of all three, with 32 requests; or no rule, or one that cannot be met.
 import random
 import sys
 
@@ -46,7 +46,11 @@ def faces(count, draw):
 def main():
     kind, checks = sys.argv[1], int(sys.argv[2])
     draw = random.Random(1)
-    if kind == "all":
+    if kind == "none":
+        rules = []
+    elif kind == "bar":
+        rules = ["h=32,-"]
+    elif kind == "all":
         rules = options(32, draw) + gaps(32, draw) + faces(32, draw)
     else:
         rules = {"h": options, "g": gaps, "f": faces}[kind](96, draw) if kind != "chain" else chain(96)

@@ -1,10 +1,8 @@
-// Reads a ticket from standard input and prints what it says, or why it is refused.
+// Reads a ticket from standard input and prints its report.
 #![tactic(auto)]
 
-mod summary;
-
+use report::explain;
 use std::io::Read;
-use summary::summarize;
 use ticket::LONGEST;
 
 // One byte more than a ticket may have, so that a longer input is seen to be longer.
@@ -13,8 +11,8 @@ const LIMIT: u64 = LONGEST as u64 + 1;
 fn run(rt: &HostRuntime) -> anyhow::Result<()> {
     let mut text = Vec::new(rt.alloc());
     rt.stdin().take(LIMIT).read_to_end(&mut text)?;
-    let summary = summarize(rt.alloc(), text.as_slice())?;
-    rt.print(summary)?;
+    let report = explain(rt.alloc(), text.as_slice())?;
+    rt.print(report)?;
     Ok(())
 }
 

@@ -19,7 +19,7 @@ bill_splits : BillSplits
 unfolding bill
 bill_splits d j k some = omega arith
 
-bills_are : BillsAre
+pub bills_are : BillsAre
 unfolding bill
 bills_are d [] = omega arith
 bills_are d (Conflict c ∷ xs) = omega (arith, bills_are d xs)

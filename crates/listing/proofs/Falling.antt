@@ -36,7 +36,7 @@ explored_append [] ys s = refl
 explored_append (x ∷ xs) ys s = ap (λ b. explores x s || b) (explored_append xs ys s) ∙ sym (or_assoc (explores x s) (explored xs s) (explored ys s))
 
 -- what is left by some lines was left by those before
-left_before : (earlier later : List Line) (s : ℕ) → explored (earlier ++ later) s ≡ false → (explored earlier s ≡ false) × (explored later s ≡ false)
+pub left_before : (earlier later : List Line) (s : ℕ) → explored (earlier ++ later) s ≡ false → (explored earlier s ≡ false) × (explored later s ≡ false)
 left_before earlier later s e = or_parts (explored earlier s) (explored later s) (sym (explored_append earlier later s) ∙ e)
 
 -- what is no part of a set is not that set

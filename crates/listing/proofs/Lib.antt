@@ -31,10 +31,12 @@ pub mod RunRest
 pub mod RunTurns
 pub mod RunUnrefused
 pub mod RunWithin
+pub mod SeedBack
 pub mod SeedBest
 pub mod SeedLists
 pub mod SeedQuestions
 pub mod SeedSteps
+pub mod SeedTop
 pub mod SeedWeights
 pub mod SettleBits
 pub mod SettleCases

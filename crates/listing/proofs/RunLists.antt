@@ -10,6 +10,7 @@ use Rattle.listing.specs.Lines.{conflict, relaxation}
 use Rattle.listing.specs.declared.lines.Line.{Line}
 use Rattle.listing.specs.declared.lines.Line.TheVariants.{Conflict, Relaxation}
 use Rattle.listing.specs.Listings.{first_conflict}
+use Rattle.listing.proofs.Bills.{bills_are}
 
 -- a list with one more splits at the last element, or where it split before
 pub split_push : {A : Type 0} (xs earlier later : List A) (x y : A) → xs ++ x ∷ [] ≡ earlier ++ (y ∷ later) → ((earlier ≡ xs) × (y ≡ x)) ⊎ ((l : List A) × (xs ≡ earlier ++ (y ∷ l)))
@@ -55,7 +56,7 @@ costs_push d (Conflict c ∷ lines) x = omega (arith, costs_push d lines x)
 costs_push d (Relaxation r ∷ lines) x = omega (arith, costs_push d lines x)
 
 bound_push : (width : ℕ) (lines : List Line) (x : Line) → bound width (lines ++ x ∷ []) ≡ bound width lines + cost (depth width) x
-bound_push width lines x = omega (arith, costs_push (depth width) lines x)
+bound_push width lines x = omega (arith, costs_push (depth width) lines x, bills_are (depth width) lines, bills_are (depth width) (lines ++ x ∷ []))
 
 pub bound_conflict : (width : ℕ) (lines : List Line) (s : ℕ) → bound width (lines ++ conflict s ∷ []) ≡ bound width lines + 1 + bill (depth width) (size s)
 unfolding cost

@@ -1,40 +1,23 @@
 -- The set in best while the requests are decided one by one, and that it is the foremost unexplored set once all are. Assumes nothing.
-use Rattle.std.proofs.Common.{◌≡◌, ◌≢◌, ℕ, zero, suc, ◌+◌, ◌<◌, ◌≤◌, ◌↔◌, Bool, true, false, ◌⊎◌, List, sym, refl, ap, ◌∙◌, inl, inr, arith}
-use lib.Bits.{bit_and, bit_or, and_zero_l}
+use Rattle.std.proofs.Common.{◌≡◌, ◌≢◌, ℕ, ◌+◌, ◌<◌, ◌≤◌, ◌↔◌, Bool, true, false, ◌⊎◌, List, sym, refl, ap, ◌∙◌, inl, inr, arith}
+use lib.Bits.{bit_and, bit_or}
 use Rattle.std.proofs.lemmas.Bool.{cases_Bool, cases_lt, cases_eq, cases_order, true≢false, false_from_ne_true, lt-ltb}
 use Rattle.sets.specs.Members.{none}
-use Rattle.sets.specs.Requests.{names, Part, everyone, keep}
-use Rattle.sets.proofs.Weights.{part_names, names_past, set_laws, empty_names}
-use Rattle.listing.specs.Lines.{IsUnexplored, NothingLeft}
+use Rattle.sets.specs.Requests.{names, Part, keep}
+use Rattle.sets.proofs.Weights.{part_names, names_past, set_laws}
+use Rattle.listing.specs.Lines.{IsUnexplored}
 use Rattle.listing.specs.Orders.{keeps_more, IsForemost}
 use Rattle.listing.specs.Settling.{IsBetween, IsSought}
 use Rattle.listing.specs.declared.lines.Line.{Line}
-use Rattle.listing.proofs.SeedWeights.{SameBelow, LeadsAt, leads_keeps}
-use Rattle.listing.proofs.SettleBits.{either_named, named_first, named_second, nothing_common, request_some, OneMore, still_named, other_named}
-
--- the first request where s and t differ is below r, and in s
-abbrev pub LeadsBelow : (r s t : ℕ) → Type 0
-LeadsBelow r s t = (q : ℕ) × (q < r) × LeadsAt q s t
-
--- the requests below r are decided: those from r on are free; the set in best is unexplored and has of the decided ones those that are
--- kept; and every other unexplored set has the same of them, or is led by what is kept
-pub record IsBest (width : ℕ) (lines : List Line) (r free kept best : ℕ) : Type 0 where
-  pub left : (q : ℕ) → (names free q ≡ true) ↔ ((r ≤ q) × (q ≤ width))
-  pub low : (q : ℕ) → names kept q ≡ true → q < r
-  pub decided : SameBelow r kept best
-  pub unexplored : IsUnexplored width lines best
-  pub first : (t : ℕ) → IsUnexplored width lines t → SameBelow r kept t ⊎ LeadsBelow r kept t
+use Rattle.listing.specs.Deciding.{SameBelow, LeadsBelow, IsBest}
+use Rattle.listing.proofs.SeedWeights.{leads_keeps}
+use Rattle.listing.proofs.SettleBits.{either_named, named_first, named_second, nothing_common, OneMore, still_named, other_named}
 
 -- tests that follow from one another are the same
-same_tests : (x y : Bool) → (x ≡ true → y ≡ true) → (y ≡ true → x ≡ true) → x ≡ y
+pub same_tests : (x y : Bool) → (x ≡ true → y ≡ true) → (y ≡ true → x ≡ true) → x ≡ y
 same_tests true y f g = sym (f refl)
 same_tests false true f g = g refl
 same_tests false false f g = refl
-
--- at first none is decided, and an unexplored set is any that is found
-below_first : (s t : ℕ) → SameBelow 1 s t
-below_first s t zero small = refl
-below_first s t (suc q) small = absurd (omega arith)
 
 -- when request r is decided, it is no longer free; it may be kept too
 module _ (width : ℕ) (lines : List Line) (r free kept best : ℕ) (h : IsBest width lines r free kept best) (less : ℕ) (without : OneMore less free r) where
@@ -170,36 +153,6 @@ module _ (width : ℕ) (lines : List Line) (r free kept best : ℕ) (h : IsBest 
       unexplored = h.unexplored;
       first = λ t found. left_first nothing t found (h.first t found);
     }
-
--- at first no request is decided
-pub start_best : (width : ℕ) (lines : List Line) (best : ℕ) → IsSought lines none (everyone width) best → IsBest width lines 1 (everyone width) none best
-start_best width lines best s = record {
-  left = set_laws.5 width;
-  low = λ q k. absurd (true≢false (sym k ∙ empty_names q));
-  decided = below_first none best;
-  unexplored = (
-    set_laws.4 width best (λ q held.
-        elim (either_named none (everyone width) q (part_names best (bit_or none (everyone width)) s.0.below q held)) [
-          | inl k ↦ absurd (true≢false (sym k ∙ empty_names q))
-          | inr e ↦ ((set_laws.5 width q).0 e).1
-        ]),
-    s.1,
-  );
-  first = λ t found. inl (below_first none t);
-}
-
--- and where nothing is found, nothing is unexplored
-pub start_none : (width : ℕ) (lines : List Line) → ((t : ℕ) → IsSought lines none (everyone width) t → ⊥) → NothingLeft width lines
-start_none width lines nothing t found =
-    nothing t (
-      record {
-        above = and_zero_l t;
-        below =
-            set_laws.2 t (bit_or none (everyone width)) (λ q held.
-            named_second none (everyone width) q ((set_laws.5 width q).1 (request_some t q held, set_laws.3 width t found.0 q held)));
-      },
-      found.1,
-    )
 
 -- once all are decided, the set in best is the foremost
 pub last_best : (width : ℕ) (lines : List Line) (r free kept best : ℕ) → IsBest width lines r free kept best → width < r

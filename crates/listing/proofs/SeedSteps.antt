@@ -1,9 +1,9 @@
 -- The steps of the search of a seed, by the sets that the code makes, and what the search tells. Assumes nothing.
-use Rattle.std.proofs.Common.{◌≡◌, ℕ, ◌+◌, ◌<◌, ◌≤◌, min, false, List, Some, None, sym, ap, ◌∙◌, subst, arith}
+use Rattle.std.proofs.Common.{◌≡◌, ℕ, ◌+◌, ◌<◌, ◌≤◌, false, List, Some, None, sym, ap, ◌∙◌, subst, arith}
 use lib.Bits.{bit_and, bit_or}
 use Rattle.std.proofs.lemmas.Bool.{false_from_ne_true}
 use Rattle.sets.specs.Members.{none, added_from, minus}
-use Rattle.sets.specs.Requests.{widest, names, everyone}
+use Rattle.sets.specs.Requests.{widest, names}
 use Rattle.sets.specs.declared.Members.{Members}
 use Rattle.sets.proofs.Naming.{set_adds}
 use Rattle.listing.specs.Orders.{keeps_more}
@@ -11,7 +11,9 @@ use Rattle.listing.specs.Seed.{as_set, seed_set}
 use Rattle.listing.specs.Settling.{IsBetween, IsSought}
 use Rattle.listing.specs.declared.lines.Line.{Line}
 use Rattle.listing.proofs.Orders.{order_laws}
-use Rattle.listing.proofs.SeedBest.{IsBest, wider_between, apart, kept_best, left_best, last_best, start_none}
+use Rattle.listing.specs.Deciding.{IsBest}
+use Rattle.listing.specs.Lines.{NothingLeft}
+use Rattle.listing.proofs.SeedBest.{wider_between, apart, kept_best, left_best, last_best}
 use Rattle.listing.proofs.SettleBits.{OneMore, freed_one, united_one}
 
 -- request r is decided: it is taken from the free requests, and added to those that are kept
@@ -48,14 +50,11 @@ module _ (width : ℕ) (lines : List Line) (r free kept best : ℕ) (h : IsBest 
       (subst (IsBest width lines (r + 1) less kept) (sym f) (left_best width lines r free kept best h less without more with nothing))
 
 -- once all requests are decided, the set in best is the seed
-pub told_seed : (width : ℕ) (lines : List Line) (r free kept : ℕ) (best : Members 1) → IsBest (min width widest) lines r free kept best.bits → min width widest < r
+pub told_seed : (width : ℕ) (lines : List Line) (r free kept : ℕ) (best : Members 1) → IsBest width lines r free kept best.bits → width < r
     → Some best ≡ seed_set width lines
 told_seed width lines r free kept best h end =
-    let w : ℕ = min width widest in
-    sym (ap as_set ((order_laws.1 (keeps_more w) w lines best.bits (order_laws.0 w)).1 (last_best w lines r free kept best.bits h end)))
+    sym (ap as_set ((order_laws.1 (keeps_more width) width lines best.bits (order_laws.0 width)).1 (last_best width lines r free kept best.bits h end)))
 
--- and where nothing was found at first there is none
-pub told_none : (width : ℕ) (lines : List Line) → ((t : ℕ) → IsSought lines none (everyone (min width widest)) t → ⊥) → None ≡ seed_set width lines
-told_none width lines nothing =
-    let w : ℕ = min width widest in
-    sym (ap as_set ((order_laws.2 (keeps_more w) w lines (order_laws.0 w)).1 (start_none w lines nothing)))
+-- and where nothing is left there is none
+pub told_none : (width : ℕ) (lines : List Line) → NothingLeft width lines → None ≡ seed_set width lines
+told_none width lines nothing = sym (ap as_set ((order_laws.2 (keeps_more width) width lines (order_laws.0 width)).1 nothing))

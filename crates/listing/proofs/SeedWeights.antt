@@ -1,19 +1,10 @@
 -- Of two sets that first differ at a request, the one that has it is of greater keep weight. Assumes nothing.
-use Rattle.std.proofs.Common.{◌≡◌, ℕ, zero, suc, ◌+◌, ◌-◌, ◌^◌, ◌<◌, ◌≤◌, true, false, cond, ltb, sym, ap, ◌∙◌, inl, inr, arith}
+use Rattle.std.proofs.Common.{◌≡◌, ℕ, zero, suc, ◌+◌, ◌-◌, ◌^◌, ◌<◌, ◌≤◌, cond, ltb, sym, ap, ◌∙◌, inl, inr, arith}
 use Rattle.std.proofs.lemmas.Bool.{cases_eq, cond-true, cond-false, ltb-true, and_parts}
 use Rattle.sets.specs.Members.{has}
 use Rattle.sets.specs.Requests.{names, keep_from, keep}
 use Rattle.sets.proofs.Weights.{first_weighs, last_weigh}
-
--- s and t have the same requests below r
-abbrev pub SameBelow : (r s t : ℕ) → Type 0
-SameBelow r s t = (q : ℕ) → q < r → names s q ≡ names t q
-
--- the first request where they differ is in s
-pub record LeadsAt (r s t : ℕ) : Type 0 where
-  pub there : names s r ≡ true
-  pub away : names t r ≡ false
-  pub same : SameBelow r s t
+use Rattle.listing.specs.Deciding.{LeadsAt}
 
 -- by the count requests from r on
 leads_from : (count r width q s t : ℕ) → r + count ≡ suc width → r ≤ q → q ≤ width → LeadsAt q s t → keep_from count r width t < keep_from count r width s

@@ -1,4 +1,4 @@
--- The bound on the checks of a listing. Assumes nothing.
+-- The bound on the checks of a listing, and what each conflict adds to it. Assumes nothing.
 use Rattle.std.specs.Prelude.{◌≡◌, ℕ, suc, ◌+◌, ◌*◌, ◌^◌, ◌<◌, ◌≤◌, cond, List, [], ◌∷◌, nat_le}
 use Rattle.sets.specs.Members.{size}
 use Rattle.sets.specs.Requests.{widest}
@@ -6,13 +6,9 @@ use Rattle.sets.specs.Sets.{bits_of}
 use Rattle.listing.specs.declared.lines.Line.{Line}
 use Rattle.listing.specs.declared.lines.Line.TheVariants.{Conflict, Relaxation}
 
--- how many times in a row a set of so many requests is halved until each part has one request at most
+-- the depth: how many times in a row so many requests are halved until each part has one at most; 0 for 0 or 1, 1 for 2, 2 up to 4, 3 up to 8, 4 up to 16, 5 up to 32
 abbrev pub depth : (width : ℕ) → ℕ
 depth width = cond (nat_le width 1) 0 (cond (nat_le width 2) 1 (cond (nat_le width 4) 2 (cond (nat_le width 8) 3 (cond (nat_le width 16) 4 5))))
-
--- how many checks a halving of a set that is halved so many times in a row may take, where it ends with so many requests
-unfoldable pub bill : (depth requests : ℕ) → ℕ
-bill depth requests = 2 * depth * requests
 
 -- how many conflicts are listed
 abbrev pub conflicts : List Line → ℕ
@@ -32,15 +28,19 @@ sizes [] = 0
 sizes (Conflict c ∷ xs) = size (bits_of c) + sizes xs
 sizes (Relaxation r ∷ xs) = sizes xs
 
--- their bills, added up
+-- the bound on the checks: one for the empty set, one for each line, and two at each depth for each request of a listed conflict
+abbrev pub bound : (width : ℕ) → List Line → ℕ
+bound width lines = 1 + relaxations lines + conflicts lines + 2 * depth width * sizes lines
+
+-- how many checks a halving of a set that is halved so many times in a row may take, where it ends with so many requests
+unfoldable pub bill : (depth requests : ℕ) → ℕ
+bill depth requests = 2 * depth * requests
+
+-- the bills of the listed conflicts, added up
 abbrev pub bills : (depth : ℕ) → List Line → ℕ
 bills depth [] = 0
 bills depth (Conflict c ∷ xs) = bill depth (size (bits_of c)) + bills depth xs
 bills depth (Relaxation r ∷ xs) = bills depth xs
-
--- the bound on the checks: one for the empty set, one for the seed of each line, and the bill of each conflict
-abbrev pub bound : (width : ℕ) → List Line → ℕ
-bound width lines = 1 + relaxations lines + conflicts lines + bills (depth width) lines
 
 -- the most answers from one line to the next: one for the empty set, one for a seed, and two less than twice its requests for a halving of it
 abbrev pub most_answers : ℕ

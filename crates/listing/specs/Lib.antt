@@ -1,4 +1,5 @@
 pub mod Bill
+pub mod Deciding
 pub mod Example
 pub mod CodeHalved
 pub mod Halving
@@ -11,6 +12,7 @@ pub mod Listed
 pub mod OrderLaws
 pub mod Orders
 pub mod RunLaws
+pub mod Searches
 pub mod Seed
 pub mod Settling
 pub mod Sound

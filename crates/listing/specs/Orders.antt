@@ -2,7 +2,7 @@
 use Rattle.std.specs.Prelude.{◌≡◌, ◌≢◌, ℕ, zero, suc, ◌^◌, Bool, true, false, not, cond, ◌⊎◌, List, [], ◌∷◌, Option, Some, None, nat_lt}
 use Rattle.std.specs.List.{filter}
 use Rattle.sets.specs.Requests.{Within, keep}
-use Rattle.listing.specs.Lines.{explored}
+use Rattle.listing.specs.Lines.{explored, IsUnexplored}
 use Rattle.listing.specs.Words.{IsProperPart}
 use Rattle.listing.specs.declared.lines.Line.{Line}
 
@@ -21,6 +21,10 @@ keeps_more width s t = nat_lt (keep width t) (keep width s)
 -- the foremost of the sets of which something holds is one of them, and goes before each other
 abbrev pub IsForemost : (before : ℕ → ℕ → Bool) (P : ℕ → Type 0) (s : ℕ) → Type 0
 IsForemost before P s = P s × ((t : ℕ) → P t → (t ≢ s) → before s t ≡ true)
+
+-- no unexplored set goes before t
+abbrev pub NothingBefore : (before : ℕ → ℕ → Bool) (width : ℕ) → List Line → (t : ℕ) → Type 0
+NothingBefore before width lines t = (s : ℕ) → IsUnexplored width lines s → before s t ≡ false
 
 -- all sets below a number
 unfoldable pub sets_below : ℕ → List ℕ

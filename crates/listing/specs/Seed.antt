@@ -1,6 +1,5 @@
 -- The seed of a listing as the code has it. Assumes nothing.
-use Rattle.std.specs.Prelude.{ℕ, List, Option, Some, None, min}
-use Rattle.sets.specs.Requests.{widest}
+use Rattle.std.specs.Prelude.{ℕ, List, Option, Some, None}
 use Rattle.sets.specs.Sets.{set_of}
 use Rattle.sets.specs.declared.Members.{Members}
 use Rattle.listing.specs.Orders.{keeps_more, foremost}
@@ -15,6 +14,6 @@ as_set (Some s) = Some (set_of s)
 abbrev pub seed_of : (width : ℕ) → List Line → Option ℕ
 seed_of width lines = foremost (keeps_more width) width lines
 
--- the same with the width cut at 32
+-- the same as a set
 abbrev pub seed_set : (width : ℕ) → List Line → Option (Members 1)
-seed_set width lines = as_set (seed_of (min width widest) lines)
+seed_set width lines = as_set (seed_of width lines)

@@ -1,2 +1,7 @@
+pub mod Accepting
+pub mod Exact
+pub mod Finishing
+pub mod Listings
+pub mod NamedCases
 pub mod Piled
-pub mod Telling
+pub mod Printed

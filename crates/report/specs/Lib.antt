@@ -1,2 +1,7 @@
+pub mod Ends
+pub mod Exactly
+pub mod Explained
+pub mod LastCall
+pub mod Named
 pub mod Piles
-pub mod Together
+pub mod Texts

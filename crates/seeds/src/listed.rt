@@ -1,5 +1,5 @@
 // A listing made by the seed and by halving alone, of a verdict that is known beforehand.
-use listing::{Line, Listing, MOST_LINES, Outcome, Search, halving};
+use listing::{Line, MOST_LINES, Outcome, Search, halving};
 use sets::Set;
 use std::alloc::{AllocError, Global};
 
@@ -23,11 +23,10 @@ impl<'a> Verdict for Without<'a> {
     }
 }
 
-// A listing, what its seeds are searched in, and how many checks it took.
+// The lines with the search of their seeds, and how many checks they took.
 #[derive(Drop)]
 pub struct Listed {
-    pub listing: Listing,
-    search: Search,
+    pub search: Search,
     pub checks: u64,
 }
 
@@ -35,10 +34,9 @@ pub struct Listed {
 const MOST_ANSWERS: u32 = 64;
 
 impl Listed {
-    pub fn new(heap: Global) -> Result<Listed, AllocError> {
+    pub fn new(heap: Global, width: u32) -> Result<Listed, AllocError> {
         Ok(Listed {
-            listing: Listing::new(heap)?,
-            search: Search::new(heap)?,
+            search: Search::new(heap, width)?,
             checks: 0,
         })
     }
@@ -82,20 +80,15 @@ impl Listed {
     }
 
     // Lists one line more; tells whether there was one, and room for it.
-    pub fn go_on<V: Verdict>(
-        &mut self,
-        heap: Global,
-        width: u32,
-        verdict: &V,
-    ) -> Result<bool, AllocError> {
-        let Some(next) = self.search.seed(width, &self.listing) else {
+    pub fn go_on<V: Verdict>(&mut self, heap: Global, verdict: &V) -> Result<bool, AllocError> {
+        let Some(next) = self.search.seed() else {
             return Ok(false);
         };
-        if self.listing.lines().len() >= MOST_LINES {
+        if self.search.lines().len() >= MOST_LINES {
             return Ok(false);
         }
         match self.line(heap, verdict, next)? {
-            Some(line) => Ok(self.listing.list(line).is_ok()),
+            Some(line) => Ok(self.search.list(line).is_ok()),
             None => Ok(false),
         }
     }
@@ -103,12 +96,12 @@ impl Listed {
 
 // All lines of a verdict, or the first 512.
 pub fn list_all<V: Verdict>(heap: Global, width: u32, verdict: &V) -> Result<Listed, AllocError> {
-    let mut made = Listed::new(heap)?;
+    let mut made = Listed::new(heap, width)?;
     if !made.check(verdict, Set::empty()) {
-        let _ = made.listing.list(Line::Conflict(Set::empty()));
+        let _ = made.search.list(Line::Conflict(Set::empty()));
     }
     for _ in 0..=MOST_LINES {
-        if !made.go_on(heap, width, verdict)? {
+        if !made.go_on(heap, verdict)? {
             return Ok(made);
         }
     }

@@ -11,36 +11,35 @@ mod trial;
 
 use family::{FAMILIES, Family, WIDTH};
 use listed::{Listed, Without};
-use listing::{Line, Listing, MOST_LINES, Search};
+use listing::{Line, MOST_LINES, Search};
 use sets::Set;
 use shown::Shown;
 use std::time::{Duration, Instant};
 use std::{env, io};
 
-// The listing of a family with its minimal conflicts alone.
-fn given(rt: &HostRuntime, family: Family) -> io::Result<Listing> {
-    let mut listing = Listing::new(rt.alloc())?;
+// The search of a family with its minimal conflicts alone listed.
+fn given(rt: &HostRuntime, family: Family) -> io::Result<Search> {
+    let mut search = Search::new(rt.alloc(), WIDTH)?;
     for conflict in family.conflicts(rt.alloc())?.iter() {
-        let _ = listing.list(Line::Conflict(*conflict));
+        let _ = search.list(Line::Conflict(*conflict));
     }
-    Ok(listing)
+    Ok(search)
 }
 
 // The next seed, listed as a relaxation where there is room.
-fn next(search: &mut Search, listing: &mut Listing) -> Option<Set> {
-    let set = search.seed(WIDTH, listing)?;
-    listing.list(Line::Relaxation(set)).ok()?;
+fn next(search: &mut Search) -> Option<Set> {
+    let set = search.seed()?;
+    search.list(Line::Relaxation(set)).ok()?;
     Some(set)
 }
 
 fn show(rt: &HostRuntime, family: Family) -> io::Result<()> {
-    let mut search = Search::new(rt.alloc())?;
-    let mut listing = given(rt, family)?;
+    let mut search = given(rt, family)?;
     let name = family.name();
     println!(rt; "family={name}")?;
     let mut last = None;
     for count in 0..=MOST_LINES {
-        let Some(set) = next(&mut search, &mut listing) else {
+        let Some(set) = next(&mut search) else {
             break;
         };
         if count < 2 {
@@ -65,19 +64,19 @@ fn measure(rt: &HostRuntime, family: Family) -> io::Result<()> {
     let verdict = Without {
         conflicts: conflicts.as_slice(),
     };
-    let mut made = Listed::new(rt.alloc())?;
+    let mut made = Listed::new(rt.alloc(), WIDTH)?;
     let _ = made.check(&verdict, Set::empty());
     let mut longest = Duration::ZERO;
     for _ in 0..=MOST_LINES {
         let start = Instant::now(rt)?;
-        let more = made.go_on(rt.alloc(), WIDTH, &verdict)?;
+        let more = made.go_on(rt.alloc(), &verdict)?;
         longest = longest.max(start.elapsed(rt)?);
         if !more {
             break;
         }
     }
     let name = family.name();
-    let lines = made.listing.lines().len();
+    let lines = made.search.lines().len();
     let checks = made.checks;
     let longest = longest.as_micros();
     println!(rt; "family={name}\nlines={lines}\nchecks={checks}\nlongest={longest}")?;

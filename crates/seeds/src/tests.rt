@@ -39,9 +39,9 @@ fn agree<V: Verdict>(
 ) -> Result<usize, AllocError> {
     let made = list_all(heap, width, verdict)?;
     let tried = try_all(heap, width, verdict)?;
-    assert_eq!(rt; made.listing.lines(), tried.lines.as_slice());
+    assert_eq!(rt; made.search.lines(), tried.lines.as_slice());
     assert_eq!(rt; made.checks, tried.checks);
-    Ok(made.listing.lines().len())
+    Ok(made.search.lines().len())
 }
 
 // Widths, how many tables each has, and how many of them are lawful.
@@ -178,7 +178,7 @@ fn families_are_listed(rt: HostRuntime) -> io::Result<()> {
             conflicts: conflicts.as_slice(),
         };
         let made = list_all(rt.alloc(), WIDTH, &verdict)?;
-        let lines = made.listing.lines();
+        let lines = made.search.lines();
         let count = lines.iter().filter(|line| is_conflict(line)).count();
         assert_eq!(rt; (family, count, lines.len()), (family, few, few + many));
         let due = lines.iter().all(|line| is_due(conflicts.as_slice(), line));
@@ -196,7 +196,7 @@ fn conflicts_of_families(rt: HostRuntime) -> io::Result<()> {
             conflicts: conflicts.as_slice(),
         };
         let made = list_all(rt.alloc(), WIDTH, &verdict)?;
-        let lines = made.listing.lines();
+        let lines = made.search.lines();
         let all = conflicts
             .iter()
             .all(|set| lines.contains(&Line::Conflict(*set)));
@@ -269,7 +269,7 @@ fn none_is_skipped(rt: HostRuntime) -> io::Result<()> {
             conflicts: conflicts.as_slice(),
         };
         let made = list_all(rt.alloc(), WIDTH, &verdict)?;
-        in_places(&rt, family, conflicts.as_slice(), made.listing.lines());
+        in_places(&rt, family, conflicts.as_slice(), made.search.lines());
     }
     Ok(())
 }

@@ -42,7 +42,7 @@ put_split : (b : Bool) (i : ℕ) (xs ys zs : List ℕ) → xs ≡ ys ++ zs → c
 put_split true i xs ys zs e = ap (λ l. i ∷ l) e
 put_split false i xs ys zs e = e
 
-members_split : (k j i n : ℕ) → members_from (k + j) i n ≡ members_from k i n ++ members_from j (i + k) n
+pub members_split : (k j i n : ℕ) → members_from (k + j) i n ≡ members_from k i n ++ members_from j (i + k) n
 members_split zero j i n = ap₂ (λ c f. members_from c f n) (omega arith) (omega arith)
 members_split (suc k) j i n =
     let more : suc k + j ≡ suc (k + j) = omega arith in

@@ -1,4 +1,4 @@
-// Tests of the oracles: tables with known answers, and exhaustive search.
+// Tests of the oracles, of the explainer and of the report: tables with known answers, and exhaustive search.
 #![tactic(auto)]
 
 #[cfg(test)]
@@ -6,7 +6,13 @@ mod agreed;
 #[cfg(test)]
 mod asked;
 #[cfg(test)]
+mod calls;
+#[cfg(test)]
+mod crowds;
+#[cfg(test)]
 mod garbage;
+#[cfg(test)]
+mod generated;
 #[cfg(test)]
 mod kinds;
 #[cfg(test)]
@@ -17,4 +23,15 @@ mod nested;
 #[cfg(test)]
 mod played;
 mod probe;
+#[cfg(test)]
+mod reports;
+#[cfg(test)]
+mod runs;
 mod search;
+#[cfg(test)]
+mod tables;
+#[cfg(test)]
+mod texts;
+#[cfg(test)]
+mod watched;
+mod wild;

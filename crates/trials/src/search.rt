@@ -103,7 +103,7 @@ pub struct Lot {
 
 impl Lot {
     // A number from 0 up to the last.
-    fn draw(&mut self, last: u32) -> u32 {
+    pub fn draw(&mut self, last: u32) -> u32 {
         self.state = self
             .state
             .wrapping_mul(1_664_525)
@@ -112,19 +112,19 @@ impl Lot {
     }
 
     // With a head or without one, and each option in one rule of four.
-    fn options(&mut self, owner: u32) -> Rule {
+    pub fn options(&mut self, owner: u32) -> Rule {
         let bits = self.draw(15) & self.draw(15);
         let head = self.draw(7);
         options(owner, (head < FEW).then_some(head), bits)
     }
 
-    fn gap(&mut self, owner: u32) -> Rule {
+    pub fn gap(&mut self, owner: u32) -> Rule {
         let a = self.draw(2);
         let b = self.draw(2);
         Rule::gap(owner, a, b, self.draw(4).cast_signed().wrapping_sub(2))
     }
 
-    fn faces(&mut self, owner: u32) -> Rule {
+    pub fn faces(&mut self, owner: u32) -> Rule {
         let odd = self.draw(1) == 1;
         faces(owner, odd, self.draw(14).wrapping_add(1))
     }

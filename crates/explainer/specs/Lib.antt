@@ -1,0 +1,16 @@
+pub mod Answering
+pub mod AtEach
+pub mod Choosing
+pub mod Dues
+pub mod Holding
+pub mod InTurn
+pub mod Law
+pub mod Moments
+pub mod Opened
+pub mod Reaching
+pub mod Refused
+pub mod Runs
+pub mod Stages
+pub mod Standings
+pub mod StepLaw
+pub mod Tallies
