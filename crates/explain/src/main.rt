@@ -11,8 +11,8 @@ const LIMIT: u64 = LONGEST as u64 + 1;
 fn run(rt: &HostRuntime) -> anyhow::Result<()> {
     let mut text = Vec::new(rt.alloc());
     rt.stdin().take(LIMIT).read_to_end(&mut text)?;
-    let report = explain(rt.alloc(), text.as_slice())?;
-    rt.print(report)?;
+    let answer = explain(rt.alloc(), text.as_slice())?;
+    print!(rt; "{answer}")?;
     Ok(())
 }
 

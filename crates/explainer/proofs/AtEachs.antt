@@ -21,6 +21,11 @@ pub each_with : {A : Type 0} (F : List A → Type 0) (P Q : List A → A → Typ
 each_with F P Q step gives past [] f each = tt
 each_with F P Q step gives past (x ∷ xs) f each = (gives past x f each.0, each_with F P Q step gives (past ++ x ∷ []) xs (step past x f each.0) each.1)
 
+-- where it follows by itself, too
+pub each_weaker : {A : Type 0} (P Q : List A → A → Type 0) → ((past : List A) (x : A) → P past x → Q past x)
+    → (past xs : List A) → AtEach P past xs → AtEach Q past xs
+each_weaker P Q gives past xs each = each_with (λ p. Unit {0}) P Q (λ p x f here. tt) (λ p x f here. gives p x here) past xs tt each
+
 -- what holds at each place both ways holds at each both ways at once
 pub each_both : {A : Type 0} (P Q : List A → A → Type 0) (past xs : List A) → AtEach P past xs → AtEach Q past xs → AtEach (λ p x. P p x × Q p x) past xs
 each_both P Q past [] first second = tt

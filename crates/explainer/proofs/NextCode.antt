@@ -1,88 +1,136 @@
--- What the code of NEXT tells, as the steps have it. Assumes nothing.
-use Rattle.std.proofs.Common.{◌≡◌, ℕ, ◌<◌, Bool, None, ◌∷◌, Ok, Err, Option, Result, refl, sym, ap, ◌∙◌, subst}
+-- What the code of NEXT tells, as the steps have it; and what is done from where it stands is done from where it
+-- stood. Assumes nothing.
+use Rattle.std.proofs.Common.{◌≡◌, ℕ, ◌<◌, Bool, List, [], ◌∷◌, Option, Some, None, Ok, Err, refl, sym, ap, ◌∙◌, subst}
+use Rattle.std.specs.Prelude.{MatchOption}
 use Rattle.std.specs.Result.{IsErrAnd}
 use Rattle.sets.specs.Sets.{bits_of, set_of}
 use Rattle.sets.specs.declared.Members.{Members}
-use Rattle.oracle.specs.Asking.{Checked}
-use Rattle.oracle.specs.Meaning.{Meaning}
-use Rattle.oracle.specs.declared.Verdict.{Verdict}
-use Rattle.listing.specs.Orders.{keeps_more}
-use Rattle.listing.specs.Steps.{Move, check, lists, all, full, answered}
-use Rattle.listing.specs.declared.lines.Line.{Line}
-use Rattle.explainer.specs.Answering.{NextDone}
+use Rattle.oracle.specs.Asking.{verdict}
+use Rattle.oracle.specs.Calls.{Checks}
+use Rattle.listing.specs.Steps.{State, Move, check, lists, all, full, answered}
+use Rattle.listing.specs.declared.lines.Line as lines
+use Rattle.explainer.specs.Calls.{width_of, listing_in, NextDone}
 use Rattle.explainer.specs.Dues.{due_of}
 use Rattle.explainer.specs.Holding.{state_of, move_of, answered_by, Same}
-use Rattle.explainer.specs.Standings.{Standing}
-use Rattle.explainer.specs.declared.moments.NextAnswer.{NextAnswer}
+use Rattle.explainer.specs.Moments.{Answer}
+use Rattle.explainer.specs.Nexts.{Ends, NextLeads}
+use Rattle.explainer.specs.Preferring.{Order, AreOrders}
+use Rattle.explainer.specs.declared.asking.Explainer.{Explainer}
+use Rattle.explainer.specs.declared.moments.NextAnswer.TheVariants as next
 use Rattle.explainer.specs.declared.moments.NextRefusal.{NextRefusal}
-use Rattle.explainer.specs.declared.progress.Due.TheVariants.{Check, List, All, Full}
+use Rattle.explainer.specs.declared.progress.Due.TheVariants as due
 use Rattle.explainer.specs.declared.progress.Progress.{Progress}
 use Rattle.explainer.proofs.NextFalls.{left_of, falls}
-use Rattle.explainer.proofs.NextSteps.{IsAnswered, next_of, check_follows}
 
 -- which move it is
-pub due_check : (m : Move) (s : Members 1) → Check s ≡ due_of m → m ≡ check (bits_of s)
+pub due_check : (m : Move) (s : Members 1) → due.Check s ≡ due_of m → m ≡ check (bits_of s)
 due_check (check t) s e = let same : set_of t ≡ s = cc in ap (λ k. check (bits_of k)) same
 due_check (lists x) s e = absurd (cc)
 due_check all s e = absurd (cc)
 due_check full s e = absurd (cc)
 
-pub due_list : (m : Move) (x : Line) → List x ≡ due_of m → m ≡ lists x
+pub due_list : (m : Move) (x : lines.Line) → due.List x ≡ due_of m → m ≡ lists x
 due_list (check t) x e = absurd (cc)
 due_list (lists y) x e = let same : y ≡ x = cc in ap (λ k. lists k) same
 due_list all x e = absurd (cc)
 due_list full x e = absurd (cc)
 
-pub due_all : (m : Move) → All ≡ due_of m → m ≡ all
+pub due_all : (m : Move) → due.All ≡ due_of m → m ≡ all
 due_all (check t) e = absurd (cc)
 due_all (lists y) e = absurd (cc)
 due_all all e = refl
 due_all full e = absurd (cc)
 
-pub due_full : (m : Move) → Full ≡ due_of m → m ≡ full
+pub due_full : (m : Move) → due.Full ≡ due_of m → m ≡ full
 due_full (check t) e = absurd (cc)
 due_full (lists y) e = absurd (cc)
 due_full all e = absurd (cc)
 due_full full e = refl
 
 -- a result that is refused with this and nothing else
-pub err_is : (r : Result NextAnswer NextRefusal) (x : NextRefusal) → IsErrAnd r (λ y. y ≡ x) → r ≡ Err x
+pub err_is : (r : Answer) (x : NextRefusal) → IsErrAnd r (λ y. y ≡ x) → r ≡ Err x
 err_is (Ok a) x e = absurd e
 err_is (Err y) x e = ap (λ z. Err z) e
 
--- how an oracle of this meaning and a progress stand
-abbrev pub standing_of : Meaning → Progress → Standing
-standing_of m p = record { width = p.search.width; meant = m; state = state_of p }
-
 -- what an answer leads to is the same where width and state are
-answered_same : (p q : Progress) → Same p q → (fit : Bool) → answered_by q fit ≡ answered_by p fit
-answered_same p q same fit = ap (λ w. answered (keeps_more w) w (state_of q) fit) same.0 ∙ ap (λ st. answered (keeps_more p.search.width) p.search.width st fit) same.1
+answered_same : (order : Order) (p q : Progress) → Same p q → (fit : Bool) → answered_by order q fit ≡ answered_by order p fit
+answered_same order p q same fit =
+    ap (λ w. answered (order w) w (state_of q) fit) same.0
+    ∙ ap (λ st. answered (order p.search.width) p.search.width st fit) same.1
 
--- the check that was due was answered, and the answer taken
-pub is_answered : (m n : Meaning) (p q t : Progress) (s : Members 1) (v : Verdict) → Check s ≡ due_of (move_of p) → Same p q → Checked m (bits_of s) (Ok v) n
-    → t.search.width ≡ q.search.width → state_of t ≡ (answered_by q v.fit).state → IsAnswered (standing_of m p) (bits_of s) v (standing_of n t)
-is_answered m n p q t s v due same checked width_is state_is = record {
-  due = due_check (move_of p) s due;
-  checked = checked;
-  width_is = width_is ∙ same.0;
-  state_is = state_is ∙ ap (λ o. o.state) (answered_same p q same v.fit);
-}
+-- so it is of what the answer was taken to, and of the line that was told
+pub led_to : (order : Order) (p q t : Progress) (fit : Bool) → Same p q → state_of t ≡ (answered_by order q fit).state
+    → state_of t ≡ (answered_by order p fit).state
+led_to order p q t fit same state_is = state_is ∙ ap (λ m. m.state) (answered_same order p q same fit)
 
--- and with it the line that is told
-pub line_told : (m : Meaning) (p q : Progress) (fit : Bool) (o : Option Line) → Same p q → o ≡ (answered_by q fit).line
-    → (next_of (standing_of m p) fit).line ≡ o
-line_told m p q fit o same told = sym (told ∙ ap (λ n. n.line) (answered_same p q same fit))
+pub line_told : (order : Order) (p q : Progress) (fit : Bool) (o : Option lines.Line) → Same p q → o ≡ (answered_by order q fit).line
+    → (answered_by order p fit).line ≡ o
+line_told order p q fit o same told = sym (told ∙ ap (λ m. m.line) (answered_same order p q same fit))
 
 -- an answer that lists no line leaves fewer checks to be answered
-pub fewer_left : (m n : Meaning) (p t : Progress) (s : ℕ) (v : Verdict) → IsAnswered (standing_of m p) s v (standing_of n t)
-    → (next_of (standing_of m p) v.fit).line ≡ None
-    → left_of (state_of t) < left_of (state_of p)
-fewer_left m n p t s v is line_is =
-    subst (λ st. left_of st < left_of (state_of p)) (sym is.state_is) (falls p.search.width (state_of p) s v.fit p.search.narrow p.sound is.due line_is)
+pub fewer_left : (order : Order) → AreOrders order → (p t : Progress) (s : ℕ) (fit : Bool) → move_of order p ≡ check s
+    → state_of t ≡ (answered_by order p fit).state → (answered_by order p fit).line ≡ None → left_of (state_of t) < left_of (state_of p)
+fewer_left order orders p t s fit is led line_is =
+    subst (λ st. left_of st < left_of (state_of p)) (sym led) (falls order orders p.search.width (state_of p) s fit p.search.narrow p.sound is line_is)
 
--- what a NEXT does from one standing it does from another, with checks answered before
-pub record GoesOn (a a' : Standing) : Type 0 where
-  pub goes_on : (r : Result NextAnswer NextRefusal) (b : Standing) → NextDone a' r b → NextDone a r b
+-- what NEXT does from one explainer it does from another, with checks answered before
+pub record GoesOn {O : Type 0} (order : Order) (checks : Checks O) (a0 a : Explainer O) : Type 0
+  where
+    pub goes_on : (r : Answer) (b : Explainer O) → NextDone order checks a r b → NextDone order checks a0 r b
 
-pub goes_further : (a0 a a' : Standing) (s : ℕ) (v : Verdict) → GoesOn a0 a → IsAnswered a s v a' → (next_of a v.fit).line ≡ None → GoesOn a0 a'
-goes_further a0 a a' s v so is line_is = record { goes_on = λ r b done. so.goes_on r b (s ∷ done.0, check_follows a a' s v is line_is done.0 r b done.1) }
+module _ {O : Type 0} (order : Order) (checks : Checks O) (a : Explainer O) where
+  -- no further check is answered
+  pub ends_so : (m : Move) (r : Answer) (b : Explainer O) → move_of order a.progress ≡ m
+      → Ends checks m (listing_in a) a.oracle r (listing_in b) b.oracle → width_of b ≡ width_of a → NextDone order checks a r b
+  ends_so m r b is ends width = record {
+    told = [];
+    leads = subst (λ (x : Move). Ends checks x (listing_in a) a.oracle r (listing_in b) b.oracle) (sym is) ends;
+    width = width;
+  }
+
+  module _ (a' : Explainer O) (s : ℕ) (fit : Bool) (is : move_of order a.progress ≡ check s)
+      (checked : checks a.oracle s (Ok (verdict fit)) a'.oracle) (width : width_of a' ≡ width_of a)
+      (led : listing_in a' ≡ (answered_by order a.progress fit).state) where
+    -- the answer listed a line
+    pub lists_so : (x : lines.Line) → (answered_by order a.progress fit).line ≡ Some x → NextDone order checks a (Ok (next.Line x)) a'
+    lists_so x line_is = record {
+      told = fit ∷ [];
+      leads = (
+        s,
+        a'.oracle,
+        is,
+        checked,
+        subst (λ (o : Option lines.Line). MatchOption o
+            (NextLeads order (width_of a) checks [] (answered_by order a.progress fit).state a'.oracle (Ok (next.Line x)) (listing_in a') a'.oracle)
+            (λ y. (◌≡◌ {A = List Bool} [] []) × (◌≡◌ {A = Answer} (Ok (next.Line x)) (Ok (next.Line y))) × (a'.oracle ≡ a'.oracle)
+            × (listing_in a' ≡ (answered_by order a.progress fit).state)))
+            (sym line_is) (refl, refl, refl, led),
+      );
+      width = width;
+    }
+
+    -- it listed none, and the NEXT went on
+    pub goes_so : (answered_by order a.progress fit).line ≡ None → (r : Answer) (b : Explainer O) → NextDone order checks a' r b → NextDone order checks a r b
+    goes_so line_is r b done =
+        let rest : NextLeads order (width_of a) checks done.told (answered_by order a.progress fit).state a'.oracle r (listing_in b) b.oracle =
+        subst (λ (w : ℕ). NextLeads order w checks done.told (answered_by order a.progress fit).state a'.oracle r (listing_in b) b.oracle) width
+        (subst (λ (st : State). NextLeads order (width_of a') checks done.told st a'.oracle r (listing_in b) b.oracle) led done.leads) in
+        record {
+          told = fit ∷ done.told;
+          leads = (
+            s,
+            a'.oracle,
+            is,
+            checked,
+            subst (λ (o : Option lines.Line). MatchOption o
+                (NextLeads order (width_of a) checks done.told (answered_by order a.progress fit).state a'.oracle r (listing_in b) b.oracle)
+                (λ y. (done.told ≡ []) × (r ≡ Ok (next.Line y)) × (b.oracle ≡ a'.oracle)
+                × (listing_in b ≡ (answered_by order a.progress fit).state)))
+                (sym line_is) rest,
+          );
+          width = done.width ∙ width;
+        }
+
+pub goes_further : {O : Type 0} (order : Order) (checks : Checks O) (a0 a a' : Explainer O) → GoesOn order checks a0 a
+    → ((r : Answer) (b : Explainer O) → NextDone order checks a' r b → NextDone order checks a r b) → GoesOn order checks a0 a'
+goes_further order checks a0 a a' so on = record { goes_on = λ r b done. so.goes_on r b (on r b done) }

@@ -4,13 +4,13 @@ use Rattle.std.specs.Prelude.{nat_eq}
 use Rattle.std.proofs.lemmas.Bool.{ne_eqb}
 use Rattle.std.proofs.lemmas.List.{length_push}
 use Rattle.sets.specs.Requests.{widest}
-use Rattle.listing.specs.Orders.{keeps_more, foremost}
+use Rattle.listing.specs.Orders.{foremost}
 use Rattle.listing.specs.Sound.{IsSound}
 use Rattle.listing.specs.Steps.{Open, State, check, seed_move, move, Moved, answered_empty, answered_seed, answered_later, answered}
 use Rattle.listing.specs.declared.lines.Line.{Line}
-use Rattle.listing.proofs.Orders.{order_laws}
 use Rattle.listing.proofs.RunParts.{held, move_later, answer_later}
 use Rattle.listing.proofs.SoundStates.{sound_answered}
+use Rattle.explainer.specs.Preferring.{Order, AreOrders}
 use Rattle.explainer.proofs.Progressing.{answers_most}
 
 -- with an open halving at most 62 answers, and one for its end; before its seed is answered two more; and one more before the empty set is
@@ -32,7 +32,7 @@ left_later lines n h = ap (λ f. left_if f h) (ne_eqb (suc n) 0 (λ e. omega ari
 abbrev pub Falls : (width limit : ℕ) → Moved → Type 0
 Falls width limit m = m.line ≡ None → IsSound width m.state → left_of m.state < limit
 
-module _ (width : ℕ) (lines : List Line) where
+module _ (order : Order) (orders : AreOrders order) (width : ℕ) (lines : List Line) where
   empty_falls : (h : Option Open) → h ≡ None → (b : Bool) → Falls width 66 (answered_empty (held lines 1 h) b)
   empty_falls None nothing true line_is sound = omega arith
   empty_falls (Some h) nothing true line_is sound = absurd (cc)
@@ -44,26 +44,26 @@ module _ (width : ℕ) (lines : List Line) where
   seed_falls n s (Some seed) due false line_is sound = omega (arith, left_later lines (suc n) (Some (record { seed = seed; answers = [] })))
 
   open_falls : (n : ℕ) (h : Open) (b : Bool)
-      → Falls width (63 - length h.answers) (answered_later (keeps_more width) width (held lines (suc (suc n)) (Some h)) (Some h) b)
+      → Falls width (63 - length h.answers) (answered_later (order width) width (held lines (suc (suc n)) (Some h)) (Some h) b)
   open_falls n h b line_is sound =
       let more : Open = record h { answers = h.answers ++ b ∷ [] } in
       omega (arith, left_later lines (suc n) (Some more), answers_most width lines more sound.halving, length_push h.answers b)
 
-  parts_fall : (n s : ℕ) (h : Option Open) → IsSound width (held lines n h) → move (keeps_more width) width (held lines n h) ≡ check s → (b : Bool)
-      → Falls width (left_of (held lines n h)) (answered (keeps_more width) width (held lines n h) b)
+  parts_fall : (n s : ℕ) (h : Option Open) → IsSound width (held lines n h) → move (order width) width (held lines n h) ≡ check s → (b : Bool)
+      → Falls width (left_of (held lines n h)) (answered (order width) width (held lines n h) b)
   parts_fall zero s h sound due b = empty_falls h (sound.first refl).1 b
   parts_fall (suc n) s None sound due b =
-      subst (λ m. Falls width (left_of (held lines (suc n) None)) m) (sym (answer_later (keeps_more width) width lines n None b))
-      (subst (λ k. Falls width k (answered_seed (held lines (suc (suc n)) None) (foremost (keeps_more width) width lines) b)) (sym (left_later lines n None))
-      (seed_falls n s (foremost (keeps_more width) width lines) (sym (move_later (keeps_more width) width lines n None) ∙ due) b))
+      subst (λ m. Falls width (left_of (held lines (suc n) None)) m) (sym (answer_later (order width) width lines n None b))
+      (subst (λ k. Falls width k (answered_seed (held lines (suc (suc n)) None) (foremost (order width) width lines) b)) (sym (left_later lines n None))
+      (seed_falls n s (foremost (order width) width lines) (sym (move_later (order width) width lines n None) ∙ due) b))
   parts_fall (suc n) s (Some h) sound due b =
-      subst (λ m. Falls width (left_of (held lines (suc n) (Some h))) m) (sym (answer_later (keeps_more width) width lines n (Some h) b))
-      (subst (λ k. Falls width k (answered_later (keeps_more width) width (held lines (suc (suc n)) (Some h)) (Some h) b)) (sym (left_later lines n (Some h)))
+      subst (λ m. Falls width (left_of (held lines (suc n) (Some h))) m) (sym (answer_later (order width) width lines n (Some h) b))
+      (subst (λ k. Falls width k (answered_later (order width) width (held lines (suc (suc n)) (Some h)) (Some h) b)) (sym (left_later lines n (Some h)))
       (open_falls n h b))
 
 -- an answer that lists no line leaves fewer
-pub falls : (width : ℕ) (st : State) (s : ℕ) (fit : Bool) → width ≤ widest → IsSound width st → move (keeps_more width) width st ≡ check s
-    → (answered (keeps_more width) width st fit).line ≡ None → left_of (answered (keeps_more width) width st fit).state < left_of st
-falls width st s fit narrow sound due line_is =
-    parts_fall width st.lines st.checks s st.halving sound due fit line_is
-    (sound_answered (keeps_more width) width st s fit narrow (order_laws.0 width) sound due)
+pub falls : (order : Order) → AreOrders order → (width : ℕ) (st : State) (s : ℕ) (fit : Bool) → width ≤ widest → IsSound width st → move (order width) width st ≡ check s
+    → (answered (order width) width st fit).line ≡ None → left_of (answered (order width) width st fit).state < left_of st
+falls order orders width st s fit narrow sound due line_is =
+    parts_fall order orders width st.lines st.checks s st.halving sound due fit line_is
+    (sound_answered (order width) width st s fit narrow (orders width) sound due)

@@ -11,6 +11,10 @@ use Rattle.explainer.specs.declared.moments.NextAnswer.TheVariants.{Line, End}
 use Rattle.explainer.specs.declared.moments.NextRefusal.{NextRefusal}
 use Rattle.explainer.specs.declared.moments.NextRefusal.TheVariants.{Outside, Full, Spent}
 
+-- what NEXT answers
+abbrev pub Answer : Type 0
+Answer = Result NextAnswer NextRefusal
+
 -- which call was made
 abbrev pub call_of : Made → Call
 call_of (Next r) = call.Next
@@ -18,38 +22,37 @@ call_of (Grant checks r) = call.Grant checks
 call_of (Try set r) = call.Try set
 call_of (Tally t) = call.Tally
 
--- the line that an answer of NEXT adds
-abbrev pub line_answered : Result NextAnswer NextRefusal → List ListedLine
-line_answered (Ok (Line x)) = x ∷ []
-line_answered (Ok End) = []
-line_answered (Err e) = []
+-- the answer of the NEXT that a call was, if it was one
+abbrev pub next_of : Made → Option Answer
+next_of (Next r) = Some r
+next_of (Grant checks r) = None
+next_of (Try set r) = None
+next_of (Tally t) = None
 
--- the line that a call adds: that which a NEXT answers, and none otherwise
-abbrev pub line_made : Made → List ListedLine
-line_made (Next r) = line_answered r
-line_made (Grant checks r) = []
-line_made (Try set r) = []
-line_made (Tally t) = []
+-- the line that a NEXT adds, which is the one that it answers; without a NEXT there is none
+abbrev pub line_of : Option Answer → List ListedLine
+line_of None = []
+line_of (Some (Ok (Line x))) = x ∷ []
+line_of (Some (Ok End)) = []
+line_of (Some (Err e)) = []
 
 -- the lines that were answered, in order
 abbrev pub lines_answered : List Moment → List ListedLine
 lines_answered [] = []
-lines_answered (x ∷ xs) = line_made x.made ++ lines_answered xs
+lines_answered (x ∷ xs) = line_of (next_of x.made) ++ lines_answered xs
 
--- the answer of the last NEXT after a call: its own, if it is a NEXT, and otherwise the one before
-abbrev pub next_or : Option (Result NextAnswer NextRefusal) → Made → Option (Result NextAnswer NextRefusal)
-next_or before (Next r) = Some r
-next_or before (Grant checks r) = before
-next_or before (Try set r) = before
-next_or before (Tally t) = before
+-- of two answers the later one, if there is one, and otherwise the one before
+abbrev pub later_or : (before later : Option Answer) → Option Answer
+later_or before None = before
+later_or before (Some r) = Some r
 
 -- the answer of the last NEXT, if there was one, where this was the one before
-abbrev pub last_next : Option (Result NextAnswer NextRefusal) → List Moment → Option (Result NextAnswer NextRefusal)
+abbrev pub last_next : (before : Option Answer) → List Moment → Option Answer
 last_next before [] = before
-last_next before (x ∷ xs) = last_next (next_or before x.made) xs
+last_next before (x ∷ xs) = last_next (later_or before (next_of x.made)) xs
 
 -- NEXT had an answer that is not SPENT
-abbrev pub IsNotSpent : Result NextAnswer NextRefusal → Type 0
+abbrev pub IsNotSpent : Answer → Type 0
 IsNotSpent (Ok a) = Unit {0}
 IsNotSpent (Err Outside) = Unit {0}
 IsNotSpent (Err Full) = Unit {0}

@@ -1,63 +1,72 @@
 // The explainer over one oracle, and its calls.
-ghost use Rattle.std.specs.Prelude.{◌≡◌, [], IfOk, MatchResult};
+ghost use Rattle.std.specs.Prelude.{◌≡◌};
 ghost use Rattle.sets.specs.Sets.{bits_of};
+ghost use Rattle.listing.specs.Listed.{lines_of};
+ghost use Rattle.explainer.specs.Moments.{call_of};
+ghost use Rattle.explainer.specs.Preferring.{preferring};
+ghost use Rattle.explainer.specs.Tallies.{tally_of};
 
 use crate::moments::{Call, Counts, Made, Moment, NextAnswer, NextRefusal};
 use crate::progress::{Due, Progress};
-use listing::Line;
+use crate::workspace::Workspace;
+use listing::{Line, Listing, Room};
 use oracle::{CheckRefusal, GrantRefusal, Oracle, Verdict};
 use sets::Set;
-use std::alloc::{AllocError, Global};
 
-// An oracle, and how far its listing has come.
+/// An oracle, and how far its listing has come.
 #[derive(Drop)]
 pub struct Explainer<O> {
     oracle: O,
     progress: Progress,
 }
 
-// There was no memory for an explainer; the oracle is handed back.
-#[derive(Drop)]
-pub struct Unmade<O> {
-    pub oracle: O,
-    pub error: AllocError,
-}
-
 impl<O: Oracle> Explainer<O> {
-    ghost use Rattle.explainer.specs.Standings.{standing, new_standing};
-    ghost use Rattle.explainer.specs.Answering.{NextDone, GrantDone, TryDone, TallyDone};
-    ghost use Rattle.explainer.specs.Reaching.{Reached, Keeps, DoneAndKept};
-    ghost use Rattle.explainer.specs.declared.moments.Made.TheVariants.{Next, Grant, Try, Tally};
+    ghost use Rattle.explainer.specs.Calls.{width_of, listing_in, IsNew, NextDone, Does, moment_of};
 
-    // All memory that any call needs is taken here.
-    pub fn new(heap: Global, oracle: O) -> Result<Explainer<O>, Unmade<O>>
-        ensures made { MatchResult result (λ e. standing O.meaning e ≡ new_standing (O.meaning oracle)) (λ u. u.oracle ≡ oracle) }
-        ensures reached { IfOk result (λ e. Reached (O.meaning oracle) [] (standing O.meaning e)) }
+    /// A new one over an oracle: it has its width, and nothing is listed. All memory that any call
+    /// needs is in the workspace.
+    pub fn new(workspace: Workspace, oracle: O) -> Explainer<O>
+        ensures { IsNew O.meaning oracle result }
     {
-        match Progress::new(heap, oracle.width()) {
-            Ok(progress) => Ok(Explainer { oracle, progress }),
-            Err(error) => Err(Unmade { oracle, error }),
+        Explainer::over(workspace.room, oracle)
+    }
+
+    // The same, of the part of a workspace that it needs.
+    pub(crate) fn over(room: Room, oracle: O) -> Explainer<O>
+        ensures { IsNew O.meaning oracle result }
+    {
+        let width = oracle.width();
+        Explainer {
+            oracle,
+            progress: Progress::new(room, width),
         }
     }
 
-    // The lines, in the order in which they were listed.
+    /// The lines, in the order in which they were listed.
     pub fn lines(&self) -> &[Line]
-        ensures { result.now ≡ (standing O.meaning self.now).state.lines }
+        ensures { result.now ≡ (listing_in self.now).lines }
     {
         self.progress.lines()
     }
 
-    // How many checks are left; none where they are endless.
+    /// The oracle and what is listed, when no further call is to be made.
+    pub fn into_parts(self) -> (O, Listing)
+        ensures oracle { result.0 ≡ self.oracle }
+        ensures listing { lines_of result.1 ≡ (listing_in self).lines }
+    {
+        (self.oracle, self.progress.into_listing())
+    }
+
+    /// How many checks are left; none where they are endless.
     pub fn left(&self) -> Option<u32>
-        ensures { result ≡ (standing O.meaning self.now).meant.allowance }
+        ensures { result ≡ (O.meaning self.now.oracle).allowance }
     {
         self.oracle.left()
     }
 
-    // The next line, or that all is listed.
+    /// The next line, or that all is listed.
     pub fn next(&mut self) -> Result<NextAnswer, NextRefusal>
-        ensures done { NextDone (standing O.meaning self.old) result (standing O.meaning self.new) }
-        ensures kept { Keeps (standing O.meaning self.old) (Next result) (standing O.meaning self.new) }
+        ensures { NextDone preferring O.check_leads self.old result self.new }
     {
         loop {
             match self.progress.due() {
@@ -77,33 +86,35 @@ impl<O: Oracle> Explainer<O> {
         }
     }
 
-    // So many checks more.
+    /// So many checks more.
     pub fn grant(&mut self, checks: u32) -> Result<(), GrantRefusal>
-        ensures done { GrantDone (standing O.meaning self.old) checks result (standing O.meaning self.new) }
-        ensures kept { Keeps (standing O.meaning self.old) (Grant checks result) (standing O.meaning self.new) }
+        ensures oracle { O.grant_leads self.old.oracle checks result self.new.oracle }
+        ensures listing { self.new.progress ≡ self.old.progress }
     {
         self.oracle.grant(checks)
     }
 
-    // Whether the requests of a set can be met together. It is not counted, and touches no line.
+    /// Whether the requests of a set can be met together. It is not counted, and touches no line.
     pub fn try_set(&mut self, set: Set) -> Result<Verdict, CheckRefusal>
-        ensures done { TryDone (standing O.meaning self.old) (bits_of set) result (standing O.meaning self.new) }
-        ensures kept { Keeps (standing O.meaning self.old) (Try set result) (standing O.meaning self.new) }
+        ensures oracle { O.check_leads self.old.oracle (bits_of set) result self.new.oracle }
+        ensures listing { self.new.progress ≡ self.old.progress }
     {
         self.oracle.check(set)
     }
 
-    // The five numbers.
+    /// The five numbers.
     pub fn tally(&self) -> Counts
-        ensures done { TallyDone (standing O.meaning self.now) result }
-        ensures kept { Keeps (standing O.meaning self.now) (Tally result) (standing O.meaning self.now) }
+        ensures { result ≡ tally_of (width_of self.now)
+            (listing_in self.now).lines (listing_in self.now).checks }
     {
         self.progress.tally()
     }
 
-    // Any of the calls, and what is recorded of it.
+    /// Any of the calls, and what is recorded of it.
     pub fn make(&mut self, call: Call) -> Moment
-        ensures { DoneAndKept (standing O.meaning self.old) call result (standing O.meaning self.new) }
+        ensures call { call_of result.made ≡ call }
+        ensures does { Does preferring O.check_leads O.grant_leads self.old result.made self.new }
+        ensures recorded { result ≡ moment_of O.meaning self.old result.made self.new }
     {
         let found = self.left();
         let made = match call {

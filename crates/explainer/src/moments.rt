@@ -6,7 +6,7 @@ use listing::Line;
 use oracle::{CheckRefusal, GrantRefusal, Verdict};
 use sets::Set;
 
-// What a NEXT answers that is not refused.
+/// What a NEXT answers that is not refused.
 #[derive(Clone, Copy, PartialEq, Eq, Debug)]
 pub enum NextAnswer {
     // A further line, which is listed now.
@@ -15,7 +15,7 @@ pub enum NextAnswer {
     End,
 }
 
-// Why a NEXT is refused.
+/// Why a NEXT is refused.
 #[derive(Clone, Copy, PartialEq, Eq, Debug)]
 pub enum NextRefusal {
     // A set that is due has a request above the width of the oracle. No NEXT of a run answers this.
@@ -27,7 +27,7 @@ pub enum NextRefusal {
 }
 
 impl NextRefusal {
-    // A case that holds a value can have no discriminant, so the numbers stand here.
+    /// A case that holds a value can have no discriminant, so the numbers stand here.
     pub fn number(self) -> u32
         ensures { result ≡ next_number self }
     {
@@ -38,7 +38,7 @@ impl NextRefusal {
         }
     }
 
-    // The label that is told, if any.
+    /// The label that is told, if any.
     pub fn value(self) -> Option<u8>
         ensures { result ≡ next_value self }
     {
@@ -62,10 +62,11 @@ impl From<CheckRefusal> for NextRefusal {
     }
 }
 
-// How many conflicts are listed, how many relaxations, the sizes of the listed conflicts added up, how many checks were answered to NEXT, and the bound on them.
+/// How many conflicts are listed, how many relaxations, the sizes of the listed conflicts added up,
+/// how many checks were answered to NEXT, and the bound on them.
 pub type Counts = (usize, usize, usize, usize, usize);
 
-// A call of an explainer.
+/// A call of an explainer.
 #[derive(Clone, Copy, PartialEq, Eq, Debug)]
 pub enum Call {
     Next,
@@ -74,7 +75,7 @@ pub enum Call {
     Tally,
 }
 
-// A call that was made, with its answer.
+/// A call that was made, with its answer.
 #[derive(Clone, Copy, PartialEq, Eq, Debug)]
 pub enum Made {
     Next(Result<NextAnswer, NextRefusal>),
@@ -89,7 +90,24 @@ pub enum Made {
     Tally(Counts),
 }
 
-// What is recorded of a call: the allowance that it found, the call with its answer, and how many lines were listed after it.
+impl Made {
+    ghost use Rattle.explainer.specs.Moments.{next_of};
+
+    /// The answer of the NEXT that this call was, if it was one.
+    pub fn next_answer(self) -> Option<Result<NextAnswer, NextRefusal>>
+        ensures { result ≡ next_of self }
+    {
+        match self {
+            Made::Next(answer) => Some(answer),
+            Made::Grant { .. } => None,
+            Made::Try { .. } => None,
+            Made::Tally(_) => None,
+        }
+    }
+}
+
+/// What is recorded of a call: the allowance that it found, the call with its answer, and how many
+/// lines were listed after it.
 #[derive(Clone, Copy, PartialEq, Eq, Debug)]
 pub struct Moment {
     pub found: Option<u32>,

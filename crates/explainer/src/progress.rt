@@ -1,25 +1,28 @@
-// How far a listing has come: what an explainer holds besides its oracle. It makes no check itself: it says which is due, and takes the answer.
-ghost use Rattle.std.specs.Prelude.{◌≡◌, ◌≤◌, min, IfOk};
+// How far a listing has come: what an explainer holds besides its oracle. It makes no check itself:
+// it says which is due, and takes the answer.
+ghost use Rattle.std.specs.Prelude.{◌≡◌, ◌≤◌, min};
 ghost use Rattle.std.proofs.Props.{props};
 ghost use Rattle.sets.specs.Requests.{widest};
 ghost use Rattle.sets.specs.Sets.{bits_of};
 ghost use Rattle.listing.specs.Sound.{IsSound};
 ghost use Rattle.listing.specs.Steps.{start, check, lists, with_line};
+ghost use Rattle.listing.specs.Listed.{lines_of};
 ghost use Rattle.listing.specs.Searches.{lines_in};
 ghost use Rattle.explainer.specs.Opened.{most_halved, state_from};
+ghost use Rattle.explainer.specs.Preferring.{preferring};
 
 use crate::moments::Counts;
 use crate::tallies::{bound, conflicts, relaxations, sizes};
 use arrayvec::ArrayVec;
-use listing::{Line, MOST_LINES, Outcome, Search, halving};
+use listing::{Line, Listing, MOST_LINES, Outcome, Room, Search, halving};
 use oracle::WIDEST;
 use sets::Set;
-use std::alloc::{AllocError, Global};
 
 // The most answers of a halving: two less than twice the requests of its seed.
 const MOST_HALVED: usize = 2 * WIDEST as usize - 2;
 
-// A halving that has no result yet: its seed, and the answers so far. An array, so that no answer fails for want of memory.
+// A halving that has no result yet: its seed, and the answers so far. An array, so that no answer
+// fails for want of memory.
 #[derive(Drop)]
 pub(crate) struct OpenHalving {
     seed: Set,
@@ -39,7 +42,8 @@ pub(crate) enum Due {
     Full,
 }
 
-// The width and the lines, which are those of the search; how many checks were answered; and an open halving or none.
+/// The width and the lines, which are those of the search; how many checks were answered; and an
+/// open halving or none.
 #[derive(Drop)]
 pub struct Progress {
     search: Search,
@@ -54,14 +58,15 @@ impl Progress {
     ghost use Rattle.explainer.specs.Tallies.{tally_of};
 
     // Nothing is listed at first. The width is cut at 32.
-    pub(crate) fn new(heap: Global, width: u32) -> Result<Progress, AllocError>
-        ensures { IfOk result (λ p. (p.search.width ≡ min width widest) × (state_of p ≡ start)) }
+    pub(crate) fn new(room: Room, width: u32) -> Progress
+        ensures width { result.search.width ≡ min width widest }
+        ensures state { state_of result ≡ start }
     {
-        Ok(Progress {
-            search: Search::new(heap, width)?,
+        Progress {
+            search: Search::new(room, width),
             checks: 0,
             halving: None,
-        })
+        }
     }
 
     // The lines, in the order in which they were listed.
@@ -71,9 +76,17 @@ impl Progress {
         self.search.lines()
     }
 
-    // What NEXT is to do: first of all it checks the empty set; it goes on with an open halving; otherwise it checks the seed of the next line.
+    // What is listed, when nothing more is to be.
+    pub(crate) fn into_listing(self) -> Listing
+        ensures { lines_of result ≡ (state_of self).lines }
+    {
+        self.search.into_listing()
+    }
+
+    // What NEXT is to do: first of all it checks the empty set; it goes on with an open halving;
+    // otherwise it checks the seed of the next line.
     pub(crate) fn due(&mut self) -> Due
-        ensures due { result ≡ due_of (move_of self.old) }
+        ensures due { result ≡ due_of (move_of preferring self.old) }
         ensures same { Same self.old self.new }
     {
         if self.checks == 0 {
@@ -94,7 +107,7 @@ impl Progress {
 
     // Lists the line that is due.
     pub(crate) fn list(&mut self, line: Line)
-        requires { move_of self.old ≡ lists line }
+        requires { move_of preferring self.old ≡ lists line }
         ensures width { self.new.search.width ≡ self.old.search.width }
         ensures state { state_of self.new ≡ with_line (state_of self.old) line }
     {
@@ -106,10 +119,10 @@ impl Progress {
 
     // Takes the answer to the check that is due: the line that it leads to, if any, is listed.
     pub(crate) fn answered(&mut self, set: Set, fit: bool) -> Option<Line>
-        requires { move_of self.old ≡ check (bits_of set) }
+        requires { move_of preferring self.old ≡ check (bits_of set) }
         ensures width { self.new.search.width ≡ self.old.search.width }
-        ensures state { state_of self.new ≡ (answered_by self.old fit).state }
-        ensures line { result ≡ (answered_by self.old fit).line }
+        ensures state { state_of self.new ≡ (answered_by preferring self.old fit).state }
+        ensures line { result ≡ (answered_by preferring self.old fit).line }
     {
         let is_first = self.checks == 0;
         self.checks += 1;
@@ -137,7 +150,8 @@ impl Progress {
 
     // The five numbers.
     pub(crate) fn tally(&self) -> Counts
-        ensures { result ≡ tally_of self.now.search.width (state_of self.now).lines (state_of self.now).checks }
+        ensures { result ≡ tally_of self.now.search.width
+            (state_of self.now).lines (state_of self.now).checks }
     {
         let lines = self.search.lines();
         (

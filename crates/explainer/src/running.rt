@@ -1,15 +1,15 @@
 // A run: an explainer over an oracle, and the calls that a caller chooses.
-ghost use Rattle.std.specs.Prelude.{◌≡◌, List, Option, length, IfOk, MatchResult};
+ghost use Rattle.std.specs.Prelude.{◌≡◌, List, Option};
 ghost use Rattle.explainer.specs.Choosing.{listed_call, after_line as call_after_line, until_end};
 ghost use Rattle.explainer.specs.declared.moments.Call.{Call};
 ghost use Rattle.explainer.specs.declared.moments.Moment.{Moment};
 
-use crate::asking::{Explainer, Unmade};
-use crate::moments::{Call, Made, Moment, NextAnswer};
+use crate::asking::Explainer;
+use crate::moments::{Call, Moment, NextAnswer, NextRefusal};
+use crate::workspace::Workspace;
 use oracle::Oracle;
-use std::alloc::Global;
 
-// Who chooses the calls, each by what was answered before it.
+/// Who chooses the calls, each by what was answered before it.
 pub trait Caller {
     ghost choice: { Self → List Moment → Option Call };
 
@@ -18,7 +18,7 @@ pub trait Caller {
         ensures { result ≡ choice self.now moments.now };
 }
 
-// The calls of a list, one after the other.
+/// The calls of a list, one after the other.
 #[derive(Clone, Copy, Debug)]
 pub struct Calls<'a> {
     pub list: &'a [Call],
@@ -32,21 +32,18 @@ impl<'a> Caller for Calls<'a> {
     }
 }
 
-// NEXT until one answers no line.
+/// NEXT until one answers no line.
 #[derive(Clone, Copy, Debug)]
 pub struct UntilEnd;
 
-// What follows on a call: NEXT, if it was a NEXT that answered a line.
-fn after_line(made: Made) -> Option<Call>
-    ensures { result ≡ call_after_line made }
+// What follows on the answer of a NEXT, or on another call: NEXT, if a line was answered.
+fn after_line(answer: Option<Result<NextAnswer, NextRefusal>>) -> Option<Call>
+    ensures { result ≡ call_after_line answer }
 {
-    match made {
-        Made::Next(Ok(NextAnswer::Line(_))) => Some(Call::Next),
-        Made::Next(Ok(NextAnswer::End)) => None,
-        Made::Next(Err(_)) => None,
-        Made::Grant { .. } => None,
-        Made::Try { .. } => None,
-        Made::Tally(_) => None,
+    match answer? {
+        Ok(NextAnswer::Line(_)) => Some(Call::Next),
+        Ok(NextAnswer::End) => None,
+        Err(_) => None,
     }
 }
 
@@ -56,37 +53,33 @@ impl Caller for UntilEnd {
     fn choose(&self, moments: &[Moment]) -> Option<Call> {
         match moments.last() {
             None => Some(Call::Next),
-            Some(moment) => after_line(moment.made),
+            Some(moment) => after_line(moment.made.next_answer()),
         }
     }
 }
 
-// What a run leaves: the explainer, and what is recorded of each call.
+/// What a run leaves: the explainer, and what is recorded of each call.
 #[derive(Drop)]
 pub struct Ran<O> {
     pub explainer: Explainer<O>,
     pub moments: Vec<Moment>,
 }
 
-ghost use Rattle.explainer.specs.Standings.{standing};
-ghost use Rattle.explainer.specs.Reaching.{Reached};
+ghost use Rattle.explainer.specs.Preferring.{preferring};
 ghost use Rattle.explainer.specs.Runs.{IsRun};
 
-// Makes an explainer over an oracle, and the calls that a caller chooses, so many at most. What is recorded takes its memory before the first of them.
-pub fn run<O: Oracle, C: Caller>(
-    heap: Global,
-    oracle: O,
-    caller: &C,
-    turns: usize,
-) -> Result<Ran<O>, Unmade<O>>
-    ensures law { MatchResult result (λ r. IsRun (C.choice caller.now) turns (O.meaning oracle) r.moments.items (standing O.meaning r.explainer)) (λ u. u.oracle ≡ oracle) }
-    ensures reached { IfOk result (λ r. Reached (O.meaning oracle) r.moments.items (standing O.meaning r.explainer)) }
+/// Makes an explainer over an oracle, and the calls that a caller chooses, as many at most as the
+/// workspace has turns.
+pub fn run<O: Oracle, C: Caller>(workspace: Workspace, oracle: O, caller: &C) -> Ran<O>
+    ensures { IsRun preferring O.meaning O.check_leads O.grant_leads (C.choice caller.now)
+        workspace.turns oracle result.moments.items result.explainer }
 {
-    let mut moments = match Vec::with_capacity(heap, turns) {
-        Ok(moments) => moments,
-        Err(error) => return Err(Unmade { oracle, error }),
-    };
-    let mut explainer = Explainer::new(heap, oracle)?;
+    let Workspace {
+        room,
+        mut moments,
+        turns,
+    } = workspace;
+    let mut explainer = Explainer::over(room, oracle);
     for _turn in 0..turns {
         let Some(call) = caller.choose(moments.as_slice()) else {
             break;
@@ -96,5 +89,5 @@ pub fn run<O: Oracle, C: Caller>(
             unreachable!()
         }
     }
-    Ok(Ran { explainer, moments })
+    Ran { explainer, moments }
 }

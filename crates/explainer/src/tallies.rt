@@ -62,7 +62,8 @@ fn depth(width: u32) -> usize
     }
 }
 
-// The bound on the checks: one for the empty set, one for the seed of each line, and for each request of a conflict two at each depth.
+// The bound on the checks: one for the empty set, one for the seed of each line, and for each
+// request of a conflict two at each depth.
 pub(crate) fn bound(width: u32, lines: &[Line]) -> usize
     requires { length lines.now ≤ MOST_LINES }
     ensures { result ≡ defined_bound width lines.now }

@@ -1,3 +1,4 @@
 pub mod Examples
+pub mod Meant
 pub mod Steps
 pub mod Verdict

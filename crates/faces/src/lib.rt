@@ -3,12 +3,13 @@
 
 mod sums;
 
-ghost use Rattle.std.specs.Prelude.{◌≡◌, min, is_some};
+ghost use Rattle.std.specs.Prelude.{◌≡◌, min, is_some, refl};
 ghost use Rattle.sets.specs.Requests.{widest};
 ghost use Rattle.sets.specs.Sets.{bits_of};
-ghost use Rattle.oracle.specs.Asking.{Checked, Granted};
+ghost use Rattle.oracle.proofs.Still.{still_checks_mean, still_grants_mean};
+ghost use Rattle.oracle.specs.Calls.{StillChecks, StillGrants};
 ghost use Rattle.faces.specs.Examples.{TwoFit, ThreeUnfit};
-ghost use Rattle.faces.specs.Verdict.{fit as fit_faces, meant, Found};
+ghost use Rattle.faces.specs.Verdict.{fit as fit_faces, Found};
 ghost use Rattle.rules.proofs.FacesDecided.{faces_decided};
 ghost use Rattle.rules.proofs.Fewer.{rule_lawful};
 ghost use Rattle.rules.specs.declared.Kind.TheVariants as kind;
@@ -43,10 +44,17 @@ impl<'a> Faces<'a> {
     }
 }
 
-// Like the block of `options` and of `gaps`: the project has an oracle of its own for each kind of rule. What else they share is in `rules` and `oracle`.
-// A clause of its own replaces the trait's, so `checked` and `granted` say that again.
+// Like the block of `options` and of `gaps`: the project has an oracle of its own for each kind of
+// rule. What else they share is in `rules` and `oracle`.
 impl<'a> Oracle for Faces<'a> {
-    ghost meaning = { λ o. meant o.list.width o.list.rules.now };
+    ghost use Rattle.faces.specs.Meant.{faces_meaning};
+
+    ghost meaning = { faces_meaning };
+
+    // No call changes the oracle itself.
+    ghost check_leads = { StillChecks faces_meaning };
+
+    ghost grant_leads = { StillGrants };
 
     fn width(&self) -> u32 {
         self.list.width()
@@ -57,27 +65,27 @@ impl<'a> Oracle for Faces<'a> {
     }
 
     // A check changes nothing.
-    fn check(&mut self, set: Set) -> Result<Verdict, CheckRefusal>
-        ensures checked { Checked (meant self.old.list.width self.old.list.rules.now) (bits_of set) result (meant self.new.list.width self.new.list.rules.now) }
-        ensures same { self.new ≡ self.old }
-    {
+    fn check(&mut self, set: Set) -> Result<Verdict, CheckRefusal> {
         refuse_outside(set, self.list.width())?;
         Ok(Verdict {
             fit: self.find(set).is_some(),
         })
     }
 
-    fn grant(&mut self, checks: u32) -> Result<(), GrantRefusal>
-        ensures granted { Granted (meant self.old.list.width self.old.list.rules.now) checks result (meant self.new.list.width self.new.list.rules.now) }
-        ensures same { self.new ≡ self.old }
-    {
+    fn grant(&mut self, checks: u32) -> Result<(), GrantRefusal> {
         granted(checks)
     }
 
-    ghost lawful = { λ o. rule_lawful kind.Faces faces_decided o.list.rules.now o.list.width o.list.narrow };
+    ghost lawful = { λ o. rule_lawful kind.Faces faces_decided
+        o.list.rules.now o.list.width o.list.narrow };
+
+    ghost check_means = { still_checks_mean faces_meaning (λ o. refl) };
+
+    ghost grant_means = { still_grants_mean faces_meaning (λ o. refl) };
 }
 
-// The definitions call the sets of the example fit and unfit as they should: see specs/Examples.antt.
+// The definitions call the sets of the example fit and unfit as they should: see
+// specs/Examples.antt.
 pub fn faces_examples()
     ensures { TwoFit × ThreeUnfit }
 {}

@@ -3,10 +3,11 @@
 
 mod rounds;
 
-ghost use Rattle.std.specs.Prelude.{◌≡◌, min, is_some};
+ghost use Rattle.std.specs.Prelude.{◌≡◌, min, is_some, refl};
 ghost use Rattle.gaps.specs.Examples.{RingOfNought, RingOfLess};
-ghost use Rattle.gaps.specs.Verdict.{fit as fit_gaps, meant, Found};
-ghost use Rattle.oracle.specs.Asking.{Checked, Granted};
+ghost use Rattle.gaps.specs.Verdict.{fit as fit_gaps, Found};
+ghost use Rattle.oracle.proofs.Still.{still_checks_mean, still_grants_mean};
+ghost use Rattle.oracle.specs.Calls.{StillChecks, StillGrants};
 ghost use Rattle.sets.specs.Requests.{widest};
 ghost use Rattle.sets.specs.Sets.{bits_of};
 ghost use Rattle.rules.proofs.Fewer.{rule_lawful};
@@ -43,10 +44,17 @@ impl<'a> Gaps<'a> {
     }
 }
 
-// Like the block of `options` and of `faces`: the project has an oracle of its own for each kind of rule. What else they share is in `rules` and `oracle`.
-// A clause of its own replaces the trait's, so `checked` and `granted` say that again.
+// Like the block of `options` and of `faces`: the project has an oracle of its own for each kind of
+// rule. What else they share is in `rules` and `oracle`.
 impl<'a> Oracle for Gaps<'a> {
-    ghost meaning = { λ o. meant o.list.width o.list.rules.now };
+    ghost use Rattle.gaps.specs.Meant.{gaps_meaning};
+
+    ghost meaning = { gaps_meaning };
+
+    // No call changes the oracle itself.
+    ghost check_leads = { StillChecks gaps_meaning };
+
+    ghost grant_leads = { StillGrants };
 
     fn width(&self) -> u32 {
         self.list.width()
@@ -56,11 +64,9 @@ impl<'a> Oracle for Gaps<'a> {
         None
     }
 
-    // A set with a request above the width is refused; of any other, whether the marks can lie as the gaps in force ask. Nothing changes.
-    fn check(&mut self, set: Set) -> Result<Verdict, CheckRefusal>
-        ensures checked { Checked (meant self.old.list.width self.old.list.rules.now) (bits_of set) result (meant self.new.list.width self.new.list.rules.now) }
-        ensures same { self.new ≡ self.old }
-    {
+    // A set with a request above the width is refused; of any other, whether the marks can lie as
+    // the gaps in force ask. Nothing changes.
+    fn check(&mut self, set: Set) -> Result<Verdict, CheckRefusal> {
         refuse_outside(set, self.list.width())?;
         Ok(Verdict {
             fit: self.find(set).is_some(),
@@ -68,14 +74,16 @@ impl<'a> Oracle for Gaps<'a> {
     }
 
     // There is nothing to count.
-    fn grant(&mut self, checks: u32) -> Result<(), GrantRefusal>
-        ensures granted { Granted (meant self.old.list.width self.old.list.rules.now) checks result (meant self.new.list.width self.new.list.rules.now) }
-        ensures same { self.new ≡ self.old }
-    {
+    fn grant(&mut self, checks: u32) -> Result<(), GrantRefusal> {
         granted(checks)
     }
 
-    ghost lawful = { λ o. rule_lawful kind.Gaps gaps_decided o.list.rules.now o.list.width o.list.narrow };
+    ghost lawful = { λ o. rule_lawful kind.Gaps gaps_decided
+        o.list.rules.now o.list.width o.list.narrow };
+
+    ghost check_means = { still_checks_mean gaps_meaning (λ o. refl) };
+
+    ghost grant_means = { still_grants_mean gaps_meaning (λ o. refl) };
 }
 
 // A ring of gaps that adds up to nought is fit, and one that adds up to less is not.

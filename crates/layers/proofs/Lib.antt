@@ -1,4 +1,1 @@
-pub mod Boths
-pub mod Cases
-pub mod Covers
 pub mod KeptLists

@@ -1,5 +1,11 @@
+pub mod Allowances
 pub mod Asked
+pub mod AskedLaws
+pub mod BothLaws
+pub mod Calls
+pub mod CoverLaws
 pub mod Layered
 pub mod Laws
 pub mod Listed
 pub mod Meant
+pub mod QuotaLaws

@@ -24,21 +24,22 @@ impl KeptSets {
         }
     }
 
-    // Whether the set is part of a kept one. Two functions for two ways round, since one over a closure would be no shorter.
+    /// Whether the set is part of a kept one. Two functions for two ways round, since one over a
+    /// closure would be no shorter.
     pub fn has_over(&self, set: Set) -> bool
         ensures { result ≡ under_one (bits_of set) (kept_list self.now) }
     {
         self.sets.iter().any(|kept| set.is_part_of(*kept))
     }
 
-    // Whether the set contains a kept one.
+    /// Whether the set contains a kept one.
     pub fn has_under(&self, set: Set) -> bool
         ensures { result ≡ over_one (bits_of set) (kept_list self.now) }
     {
         self.sets.iter().any(|kept| kept.is_part_of(set))
     }
 
-    // Keeps the set, unless there is no room.
+    /// Keeps the set, unless there is no room.
     pub fn keep(&mut self, set: Set)
         ensures { kept_list self.new ≡ kept_one (bits_of set) (kept_list self.old) }
     {

@@ -1,4 +1,5 @@
-// The parts of a listing: its lines, the seed of the next one, and halving; and what holds of every listing.
+// The parts of a listing: its lines, the seed of the next one, and halving; and what holds of every
+// listing.
 #![tactic(auto)]
 
 ghost use Rattle.listing.specs.Bill.{BillLaws};
@@ -16,9 +17,10 @@ mod settle;
 
 pub use halves::{Outcome, halving};
 pub use lines::{Full, Line, Listing, MOST_LINES};
-pub use seeds::Search;
+pub use seeds::{Room, Search};
 
-// Keep weight is an order, and the foremost unexplored set is what it should be in any order, as a theorem: see specs/OrderLaws.antt.
+// Keep weight is an order, and the foremost unexplored set is what it should be in any order, as a
+// theorem: see specs/OrderLaws.antt.
 pub fn order_laws_hold()
     ensures { OrderLaws }
 {}

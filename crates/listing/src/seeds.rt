@@ -61,7 +61,8 @@ fn drops_beyond(lines: &[Line], kept: Set, free: Set, drops: &mut Sets)
     }
 }
 
-// Some unexplored set that has all kept requests, and others only of the free ones; none where there is none.
+// Some unexplored set that has all kept requests, and others only of the free ones; none where
+// there is none.
 fn find(lines: &[Line], kept: Set, free: Set, levels: &mut [Sets]) -> Option<Set>
     requires few { length lines.now ≤ MOST_LINES }
     requires room { MOST_LEVELS ≤ length levels.old }
@@ -80,8 +81,8 @@ fn find(lines: &[Line], kept: Set, free: Set, levels: &mut [Sets]) -> Option<Set
     Some(kept.union(rest))
 }
 
-// The same where an unexplored set is known that has all kept requests but perhaps this one: that set, if it has it; that set with it, if that is unexplored;
-// otherwise what is found.
+// The same where an unexplored set is known that has all kept requests but perhaps this one: that
+// set, if it has it; that set with it, if that is unexplored; otherwise what is found.
 fn reach(
     lines: &[Line],
     best: Set,
@@ -107,16 +108,44 @@ fn reach(
     Some(wider)
 }
 
-// How many lists a search needs: the conflicts, the drops, and one for each request that is decided.
+/// How many lists a search needs: the conflicts, the drops, and one for each request that is
+/// decided.
 pub const MOST_LEVELS: usize = WIDEST as usize + 2;
 
-// The lines listed so far, and the search for the seed of the next. It takes its memory when it is made, and none later. What its lists hold between two searches is open, and nothing
-// depends on it.
+/// All memory that a search takes: room for its lines, and the lists that it works in. Making it
+/// can want for memory; a search that is made of it never does.
+#[derive(Drop)]
+pub struct Room {
+    listing: Listing,
+    levels: Vec<Sets>,
+    ghost empty: { lines_of listing ≡ [] } by { Prim.hlevel props },
+    ghost room: { most_levels ≤ vec_len levels },
+}
+
+impl Room {
+    /// Nothing is listed in it.
+    pub fn new(heap: Global) -> Result<Room, AllocError>
+        ensures { IfOk result (λ r. lines_of r.listing ≡ []) }
+    {
+        let mut levels = Vec::with_capacity(heap, MOST_LEVELS)?;
+        for _level in 0..MOST_LEVELS {
+            levels.push(ArrayVec::new())?;
+        }
+        Ok(Room {
+            listing: Listing::new(heap)?,
+            levels,
+        })
+    }
+}
+
+/// The lines listed so far, and the search for the seed of the next. What its lists hold between
+/// two searches is open, and nothing depends on it.
 #[derive(Drop)]
 pub struct Search {
     width: u32,
     listing: Listing,
-    // No unexplored set has more keep weight than this: all requests at first, and then the last seed. Lines only explore more, so this stays true.
+    // No unexplored set has more keep weight than this: all requests at first, and then the last
+    // seed. Lines only explore more, so this stays true.
     top: Set,
     levels: Vec<Sets>,
     ghost narrow: { width ≤ widest },
@@ -129,20 +158,17 @@ impl Search {
     ghost use Rattle.listing.specs.Listed.{with_one, room_answer};
     ghost use Rattle.listing.specs.Searches.{lines_in};
 
-    // Nothing is listed at first. The width is cut at 32.
-    pub fn new(heap: Global, width: u32) -> Result<Search, AllocError>
-        ensures { IfOk result (λ s. (s.width ≡ min width widest) × (lines_in s ≡ [])) }
+    /// Nothing is listed at first. The width is cut at 32.
+    pub fn new(room: Room, width: u32) -> Search
+        ensures width { result.width ≡ min width widest }
+        ensures lines { lines_in result ≡ [] }
     {
-        let mut levels = Vec::with_capacity(heap, MOST_LEVELS)?;
-        for _level in 0..MOST_LEVELS {
-            levels.push(ArrayVec::new())?;
-        }
-        Ok(Search {
+        Search {
             width: width.min(WIDEST),
-            listing: Listing::new(heap)?,
+            listing: room.listing,
             top: Set::all(width),
-            levels,
-        })
+            levels: room.levels,
+        }
     }
 
     pub fn width(&self) -> u32
@@ -151,14 +177,22 @@ impl Search {
         self.width
     }
 
-    // The lines, in the order in which they were listed.
+    /// The lines, in the order in which they were listed.
     pub fn lines(&self) -> &[Line]
         ensures { result.now ≡ lines_in self.now }
     {
         self.listing.lines()
     }
 
-    // Lists a line, unless 512 are listed.
+    /// What is listed, when the search is over.
+    pub fn into_listing(self) -> Listing
+        ensures { lines_of result ≡ lines_in self }
+    {
+        let Search { listing, .. } = self;
+        listing
+    }
+
+    /// Lists a line, unless 512 are listed.
     pub fn list(&mut self, line: Line) -> Result<(), Full>
         ensures width { self.new.width ≡ self.old.width }
         ensures lines { lines_in self.new ≡ with_one (lines_in self.old) line }
@@ -167,7 +201,7 @@ impl Search {
         self.listing.list(line)
     }
 
-    // The unexplored set of greatest keep weight, or none where nothing is left.
+    /// The unexplored set of greatest keep weight, or none where nothing is left.
     pub fn seed(&mut self) -> Option<Set>
         ensures seed { result ≡ seed_set self.old.width (lines_in self.old) }
         ensures width { self.new.width ≡ self.old.width }
@@ -184,8 +218,8 @@ impl Search {
     }
 }
 
-// What is decided of a seed: the requests below the next. It has those of them that are kept; an unexplored set is known that has the same of them; and the others, from the next on, are
-// free.
+// What is decided of a seed: the requests below the next. It has those of them that are kept; an
+// unexplored set is known that has the same of them; and the others, from the next on, are free.
 #[derive(Clone, Copy)]
 struct Decided {
     next: u32,
@@ -194,7 +228,8 @@ struct Decided {
     best: Set,
 }
 
-// The seed is top, while no line explores it. Otherwise it is left at some request, and what follows is decided one by one.
+// The seed is top, while no line explores it. Otherwise it is left at some request, and what
+// follows is decided one by one.
 fn seed(width: u32, listing: &Listing, top: Set, levels: &mut [Sets]) -> Option<Set>
     requires narrow { width ≤ widest }
     requires room { MOST_LEVELS ≤ length levels.old }
@@ -210,7 +245,8 @@ fn seed(width: u32, listing: &Listing, top: Set, levels: &mut [Sets]) -> Option<
     Some(decide(width, lines, decided, levels))
 }
 
-// Goes back from the last request: where top has one, whether some unexplored set has the same requests before it, but not that one. The first that is found leaves top last, and so keeps most.
+// Goes back from the last request: where top has one, whether some unexplored set has the same
+// requests before it, but not that one. The first that is found leaves top last, and so keeps most.
 fn leave(width: u32, lines: &[Line], top: Set, levels: &mut [Sets]) -> Option<Decided>
     requires narrow { width ≤ widest }
     requires few { length lines.now ≤ MOST_LINES }
@@ -240,7 +276,8 @@ fn leave(width: u32, lines: &[Line], top: Set, levels: &mut [Sets]) -> Option<De
     None
 }
 
-// Each request in turn is kept where some unexplored set has it and all those that were kept before. (`..=` would give the last request a proof of its own.)
+// Each request in turn is kept where some unexplored set has it and all those that were kept
+// before. (`..=` would give the last request a proof of its own.)
 fn decide(width: u32, lines: &[Line], decided: Decided, levels: &mut [Sets]) -> Set
     requires narrow { width ≤ widest }
     requires few { length lines.now ≤ MOST_LINES }

@@ -1,3 +1,4 @@
 pub mod Examples
+pub mod Meant
 pub mod Propagating
 pub mod Verdict

@@ -3,12 +3,13 @@
 
 mod propagation;
 
-ghost use Rattle.std.specs.Prelude.{◌≡◌, min, is_some};
+ghost use Rattle.std.specs.Prelude.{◌≡◌, min, is_some, refl};
 ghost use Rattle.sets.specs.Requests.{widest};
 ghost use Rattle.sets.specs.Sets.{bits_of};
-ghost use Rattle.oracle.specs.Asking.{Checked, Granted};
+ghost use Rattle.oracle.proofs.Still.{still_checks_mean, still_grants_mean};
+ghost use Rattle.oracle.specs.Calls.{StillChecks, StillGrants};
 ghost use Rattle.options.specs.Examples.{AloneFits, TogetherUnfit};
-ghost use Rattle.options.specs.Verdict.{fit as fit_options, meant, Found};
+ghost use Rattle.options.specs.Verdict.{fit as fit_options, Found};
 ghost use Rattle.rules.proofs.Fewer.{rule_lawful};
 ghost use Rattle.rules.proofs.OptionsDecided.{options_decided};
 ghost use Rattle.rules.specs.declared.Kind.TheVariants as kind;
@@ -47,10 +48,17 @@ impl<'a> Options<'a> {
     }
 }
 
-// Like the block of `gaps` and of `faces`: the project has an oracle of its own for each kind of rule. What else they share is in `rules` and `oracle`.
-// A clause of its own replaces the trait's, so `checked` and `granted` say that again.
+// Like the block of `gaps` and of `faces`: the project has an oracle of its own for each kind of
+// rule. What else they share is in `rules` and `oracle`.
 impl<'a> Oracle for Options<'a> {
-    ghost meaning = { λ o. meant o.list.width o.list.rules.now };
+    ghost use Rattle.options.specs.Meant.{options_meaning};
+
+    ghost meaning = { options_meaning };
+
+    // No call changes the oracle itself.
+    ghost check_leads = { StillChecks options_meaning };
+
+    ghost grant_leads = { StillGrants };
 
     fn width(&self) -> u32 {
         self.list.width()
@@ -61,24 +69,23 @@ impl<'a> Oracle for Options<'a> {
     }
 
     // A check changes nothing.
-    fn check(&mut self, set: Set) -> Result<Verdict, CheckRefusal>
-        ensures checked { Checked (meant self.old.list.width self.old.list.rules.now) (bits_of set) result (meant self.new.list.width self.new.list.rules.now) }
-        ensures same { self.new ≡ self.old }
-    {
+    fn check(&mut self, set: Set) -> Result<Verdict, CheckRefusal> {
         refuse_outside(set, self.list.width())?;
         Ok(Verdict {
             fit: self.find(set).is_some(),
         })
     }
 
-    fn grant(&mut self, checks: u32) -> Result<(), GrantRefusal>
-        ensures granted { Granted (meant self.old.list.width self.old.list.rules.now) checks result (meant self.new.list.width self.new.list.rules.now) }
-        ensures same { self.new ≡ self.old }
-    {
+    fn grant(&mut self, checks: u32) -> Result<(), GrantRefusal> {
         granted(checks)
     }
 
-    ghost lawful = { λ o. rule_lawful kind.Options options_decided o.list.rules.now o.list.width o.list.narrow };
+    ghost lawful = { λ o. rule_lawful kind.Options options_decided
+        o.list.rules.now o.list.width o.list.narrow };
+
+    ghost check_means = { still_checks_mean options_meaning (λ o. refl) };
+
+    ghost grant_means = { still_grants_mean options_meaning (λ o. refl) };
 }
 
 // The definitions find the verdicts on a small list of rules.

@@ -30,22 +30,23 @@ width_answer width s = cond (within width s) (Ok tt) (Err Outside)
 abbrev pub check_answer : Meaning → ℕ → Result Verdict CheckRefusal
 check_answer m s = cond (within m.width s) (if_left m s) (Err Outside)
 
--- an allowance after an answered check: endless, or the same, or one less; always one less where someone counts each
-abbrev pub Taken : (counted_by before after : Option ℕ) → Type 0
-Taken counted_by None None = Unit {0}
-Taken counted_by None (Some b) = ⊥
-Taken counted_by (Some a) None = ⊥
-Taken None (Some a) (Some b) = (b ≡ a) ⊎ (suc b ≡ a)
-Taken (Some own) (Some a) (Some b) = suc b ≡ a
+-- what a call leaves, whatever it answers: an answered call keeps width and verdict, and changes
+-- the allowance so; a refused one leaves the whole meaning
+abbrev pub Leaves : {A E : Type 0} → (change : Option ℕ → Option ℕ → Type 0) → Result A E → Meaning
+    → Meaning → Type 0
+Leaves change (Ok a) m n = Kept m n × change m.allowance n.allowance
+Leaves change (Err e) m n = Unchanged m n
 
--- what a check leaves
-abbrev pub AfterCheck : Result Verdict CheckRefusal → Meaning → Meaning → Type 0
-AfterCheck (Ok v) m n = Kept m n × Taken m.counted_by m.allowance n.allowance
-AfterCheck (Err e) m n = Unchanged m n
+-- an allowance after an answered check: endless, or the same, or one less
+abbrev pub Taken : (before after : Option ℕ) → Type 0
+Taken None None = Unit {0}
+Taken None (Some b) = ⊥
+Taken (Some a) None = ⊥
+Taken (Some a) (Some b) = (b ≡ a) ⊎ (suc b ≡ a)
 
 -- CHECK of a set: the answer, and what the oracle means afterwards
 abbrev pub Checked : Meaning → ℕ → Result Verdict CheckRefusal → Meaning → Type 0
-Checked m s r n = (r ≡ check_answer m s) × AfterCheck r m n
+Checked m s r n = (r ≡ check_answer m s) × Leaves Taken r m n
 
 -- what GRANT answers
 abbrev pub grant_answer : ℕ → Result (Unit {0}) GrantRefusal
@@ -56,11 +57,10 @@ abbrev pub grown : ℕ → Option ℕ → Option ℕ
 grown k None = None
 grown k (Some a) = Some (min (a + k) limit)
 
--- what a grant leaves
-abbrev pub AfterGrant : Result (Unit {0}) GrantRefusal → ℕ → Meaning → Meaning → Type 0
-AfterGrant (Ok u) k m n = Kept m n × (n.allowance ≡ grown k m.allowance)
-AfterGrant (Err e) k m n = Unchanged m n
+-- the allowance after an answered grant is the one grown by it
+abbrev pub Grown : ℕ → (before after : Option ℕ) → Type 0
+Grown k before after = after ≡ grown k before
 
 -- GRANT of k: the answer, and what the oracle means afterwards
 abbrev pub Granted : Meaning → ℕ → Result (Unit {0}) GrantRefusal → Meaning → Type 0
-Granted m k r n = (r ≡ grant_answer k) × AfterGrant r k m n
+Granted m k r n = (r ≡ grant_answer k) × Leaves (Grown k) r m n

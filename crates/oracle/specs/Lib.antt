@@ -1,3 +1,4 @@
 pub mod Asking
+pub mod Calls
 pub mod Meaning
 pub mod Refused

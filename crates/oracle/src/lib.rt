@@ -3,19 +3,21 @@
 
 ghost use Rattle.std.specs.Prelude.{◌≡◌};
 ghost use Rattle.sets.specs.Sets.{bits_of};
-ghost use Rattle.oracle.specs.Asking.{width_answer, grant_answer, Checked, Granted};
+ghost use Rattle.oracle.specs.Asking.{width_answer, grant_answer};
+ghost use Rattle.oracle.specs.Calls.{Checks, Grants, ChecksMean, GrantsMean};
 ghost use Rattle.oracle.specs.Meaning.{Meaning, Lawful};
 ghost use Rattle.oracle.specs.Refused.{check_number, check_value, grant_number};
 
 use sets::Set;
 
-// What a check tells of a set: whether all of its requests can be met together. A struct, so that it can tell more one day.
+/// What a check tells of a set: whether all of its requests can be met together. A struct, so that
+/// it can tell more one day.
 #[derive(Clone, Copy, PartialEq, Eq, Debug)]
 pub struct Verdict {
     pub fit: bool,
 }
 
-// Why a check is refused.
+/// Why a check is refused.
 #[derive(Clone, Copy, PartialEq, Eq, Debug)]
 pub enum CheckRefusal {
     // The set has a request above the width.
@@ -24,7 +26,7 @@ pub enum CheckRefusal {
     Spent { label: u8 },
 }
 
-// Why a grant is refused.
+/// Why a grant is refused.
 #[derive(Clone, Copy, PartialEq, Eq, Debug)]
 pub enum GrantRefusal {
     // More than 1,000,000 checks at once.
@@ -32,7 +34,7 @@ pub enum GrantRefusal {
 }
 
 impl CheckRefusal {
-    // A case that holds a value can have no discriminant, so the numbers stand here.
+    /// A case that holds a value can have no discriminant, so the numbers stand here.
     pub fn number(self) -> u32
         ensures { result ≡ check_number self }
     {
@@ -42,7 +44,7 @@ impl CheckRefusal {
         }
     }
 
-    // The label that is told, if any: a part of the refusal and not the whole, so no conversion.
+    /// The label that is told, if any: a part of the refusal and not the whole, so no conversion.
     pub fn value(self) -> Option<u8>
         ensures { result ≡ check_value self }
     {
@@ -61,13 +63,13 @@ impl GrantRefusal {
     }
 }
 
-// The most checks that can be counted, and that can be granted at once.
+/// The most checks that can be counted, and that can be granted at once.
 pub const LIMIT: u32 = 1_000_000;
 
-// The most requests.
+/// The most requests.
 pub const WIDEST: u32 = 32;
 
-// Every oracle refuses a set with a request above its width, before it looks at anything else.
+/// Every oracle refuses a set with a request above its width, before it looks at anything else.
 pub fn refuse_outside(set: Set, width: u32) -> Result<(), CheckRefusal>
     ensures { result ≡ width_answer width (bits_of set) }
 {
@@ -77,7 +79,7 @@ pub fn refuse_outside(set: Set, width: u32) -> Result<(), CheckRefusal>
     Ok(())
 }
 
-// What every oracle answers to a grant, whatever it counts.
+/// What every oracle answers to a grant, whatever it counts.
 pub fn granted(checks: u32) -> Result<(), GrantRefusal>
     ensures { result ≡ grant_answer checks }
 {
@@ -87,26 +89,38 @@ pub fn granted(checks: u32) -> Result<(), GrantRefusal>
     Ok(())
 }
 
-// What an oracle means, its calls, and the law of its meaning.
+/// What an oracle means, its calls, and the laws of both. A call is a relation between the oracle
+/// before it and the oracle after it, which each `impl` defines: a meaning can be restored, and
+/// says nothing of calls that were paid back.
 pub trait Oracle {
     ghost meaning: { Self → Meaning };
 
-    // How many requests there are.
+    // Which answer one CHECK of a set gives, and which oracle it leaves.
+    ghost check_leads: { Checks Self };
+
+    // The same of one GRANT.
+    ghost grant_leads: { Grants Self };
+
+    /// How many requests there are.
     fn width(&self) -> u32
         ensures { result ≡ (meaning self.now).width };
 
-    // How many checks are left; none where they are endless.
+    /// How many checks are left; none where they are endless.
     fn left(&self) -> Option<u32>
         ensures { result ≡ (meaning self.now).allowance };
 
-    // Whether the requests of a set can be met together.
+    /// Whether the requests of a set can be met together.
     fn check(&mut self, set: Set) -> Result<Verdict, CheckRefusal>
-        ensures { Checked (meaning self.old) (bits_of set) result (meaning self.new) };
+        ensures { check_leads self.old (bits_of set) result self.new };
 
-    // So many checks more.
+    /// So many checks more.
     fn grant(&mut self, checks: u32) -> Result<(), GrantRefusal>
-        ensures { Granted (meaning self.old) checks result (meaning self.new) };
+        ensures { grant_leads self.old checks result self.new };
 
-    // Each impl proves it of what it means.
+    // Each `impl` proves these, of what it means and of its calls.
     ghost lawful: { (o : Self) → Lawful (meaning o) };
+
+    ghost check_means: { ChecksMean meaning check_leads };
+
+    ghost grant_means: { GrantsMean meaning grant_leads };
 }

@@ -27,10 +27,13 @@ use Rattle.ticket.specs.Reading.{reading, answer, rules_read, padded}
 use Rattle.ticket.specs.Tickets.{Ticket, Exact}
 use Rattle.ticket.specs.declared.fault.TicketFault.{TicketFault}
 use Rattle.ticket.specs.declared.reader.Header.{Header}
+use Rattle.report.specs.Answered.{text_told, AnswersRead, IsAnswered}
 use Rattle.report.specs.Ends.{Finished, listing_of}
 use Rattle.report.specs.Exactly.{Unfit, IsMinimalConflict, IsMaximalRelaxation, TellsOne, TellsAll, IsReport, IsAnswer, IsReportOf}
-use Rattle.report.specs.Explained.{accepted_text, refused_text, text_of, explained}
+use Rattle.report.specs.Explained.{accepted_text, text_of, explained}
 use Rattle.report.specs.Piles.{rules_meaning}
+use Rattle.report.specs.declared.explained.Answer.TheVariants as of_ticket
+use Rattle.report.specs.declared.texts.Report.{Report}
 use Rattle.report.proofs.Listings.{IsFinished, finished_is}
 use Rattle.report.proofs.Piled.{all_fit, fit_all}
 
@@ -122,7 +125,8 @@ pub ticket_read : (text : List ℕ) → Exact text most_rules → (h : Header) �
 ticket_read text exact h is = (exact.only h (rules_read (reading text most_rules)) (read_then (reading text most_rules) h is)).0
 
 -- the list that is left begins with its rules, and the header says how many they are
-module _ (text : List ℕ) (left : List Rule) (exact : Exact text most_rules) (h : Header) (is : Ok h ≡ answer (reading text most_rules))
+module _ (text : List ℕ) (left : List Rule) (exact : Exact text most_rules) (h : Header)
+    (is : Ok h ≡ answer (reading text most_rules))
     (list : left ≡ padded most_rules (rules_read (reading text most_rules))) where
   pub first_read : take h.rules left ≡ rules_read (reading text most_rules)
   first_read =
@@ -136,14 +140,17 @@ module _ (text : List ℕ) (left : List Rule) (exact : Exact text most_rules) (h
   rules_within = omega (arith, as_many, length-take h.rules left)
 
 -- the report of these rules is what the bytes are answered with
-pub text_read : (text : List ℕ) (h : Header) → Ok h ≡ answer (reading text most_rules)
+text_read : (text : List ℕ) (h : Header) → Ok h ≡ answer (reading text most_rules)
     → accepted_text h (rules_read (reading text most_rules)) ≡ explained text
 text_read text h is = ap text_of (sym (read_then (reading text most_rules) h is))
 
--- and to one that was refused
-refused_then : (r : Result (Header × List Rule) TicketFault) (f : TicketFault) → Err f ≡ answer r → r ≡ Err f
-refused_then (Ok p) f is = absurd (cc)
-refused_then (Err g) f is = let same : f ≡ g = cc in ap (λ k. Err k) (sym same)
-
-pub text_refused : (text : List ℕ) (f : TicketFault) → Err f ≡ answer (reading text most_rules) → refused_text f ≡ explained text
-text_refused text f is = ap text_of (sym (refused_then (reading text most_rules) f is))
+-- so a report of which that text is told answers the ticket
+pub answers_report : (text : List ℕ) → Exact text most_rules → (h : Header)
+    → Ok h ≡ answer (reading text most_rules) → (r : Report)
+    → text_told r ≡ accepted_text h (rules_read (reading text most_rules))
+    → IsAnswered text (Ok (of_ticket.Report r))
+answers_report text exact h ok r told =
+    let all : text_told r ≡ explained text = told ∙ text_read text h ok in
+    subst (λ read. AnswersRead read text (Ok (of_ticket.Report r)))
+    (sym (read_then (reading text most_rules) h ok))
+    (all, subst (IsReportOf text) (sym all) (is_report_of text exact))

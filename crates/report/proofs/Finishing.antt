@@ -1,174 +1,335 @@
--- A run of NEXT until one answers no line ends as the steps do with all checks from the first on, and in their state. Assumes nothing.
-use Rattle.std.proofs.Common.{◌≡◌, ℕ, zero, suc, ◌+◌, ◌-◌, ◌<◌, ◌≤◌, List, [], ◌∷◌, ◌++◌, length, Option, Some, None, Ok, Err}
-use Rattle.std.proofs.Common.{Result, ◌⊎◌, inl, inr, refl, sym, ap, ◌∙◌, subst, arith, length-append}
-use Rattle.std.proofs.lemmas.List.{length-map}
+-- A run of NEXT until one answers no line, over a quota of an oracle whose checks are endless, ends
+-- as the steps do with all checks from the first on, and in their state. Assumes nothing.
+use Rattle.std.proofs.Common.{◌≡◌, ℕ, zero, suc, ◌+◌, ◌-◌, ◌≤◌, min, List, [], ◌∷◌, ◌++◌, length, Option, Some, None, Ok, Err}
+use Rattle.std.proofs.Common.{inl, inr, refl, sym, ap, ◌∙◌, subst, append-nil, append_assoc, arith}
 use Rattle.std.specs.Prelude.{IsSomeAnd}
-use Rattle.oracle.specs.Meaning.{Meaning, Lawful}
+use Rattle.oracle.specs.Calls.{Checks, Grants, ChecksMean, GrantsMean}
+use Rattle.oracle.specs.Meaning.{Meaning, Lawful, Kept, limit}
+use Rattle.oracle.specs.declared.CheckRefusal.{CheckRefusal}
+use Rattle.oracle.specs.declared.CheckRefusal.TheVariants as check
+use Rattle.oracle.proofs.Checks.{kept}
+use Rattle.layers.specs.AskedLaws.{Took, QuotaTakes}
+use Rattle.layers.specs.Calls.{QuotaChecks, QuotaGrants}
+use Rattle.layers.specs.Laws.{quota_lawful}
+use Rattle.layers.specs.Meant.{quota_meaning}
+use Rattle.layers.specs.QuotaLaws.{quota_checks_mean, quota_takes}
+use Rattle.layers.specs.declared.quota.Quota.{Quota}
+use Rattle.listing.specs.RunLaws.{IsNotRefused}
+use Rattle.listing.specs.Steps.{State, start}
 use Rattle.listing.specs.Turns.{Said, listed, all_listed, no_room, refused, Turn}
 use Rattle.explainer.specs.AtEach.{AtEach}
-use Rattle.explainer.specs.Choosing.{after_line, until_end, AreChosen, HasStopped}
-use Rattle.explainer.specs.Moments.{call_of, last_made}
-use Rattle.explainer.specs.Reaching.{standing_after, Joined, Reached}
-use Rattle.explainer.specs.Runs.{EndsListing, IsRun}
-use Rattle.explainer.specs.Stages.{Stage, moments}
-use Rattle.explainer.specs.Standings.{Standing}
+use Rattle.explainer.specs.Calls.{width_of, listing_in, IsNew, NextDone, Does}
+use Rattle.explainer.specs.Chains.{Told}
+use Rattle.explainer.specs.Choosing.{after_line, until_end, HasStopped}
+use Rattle.explainer.specs.Led.{Leads}
+use Rattle.explainer.specs.Moments.{Answer, call_of, next_of, last_made}
+use Rattle.explainer.specs.Nexts.{NextLeads}
+use Rattle.explainer.specs.Preferring.{preferring}
+use Rattle.explainer.specs.Refused.{passed_on}
+use Rattle.explainer.specs.Runs.{EndsListing}
+use Rattle.explainer.specs.declared.asking.Explainer.{Explainer}
 use Rattle.explainer.specs.declared.moments.Call.{Call}
 use Rattle.explainer.specs.declared.moments.Call.TheVariants as call
 use Rattle.explainer.specs.declared.moments.Made.{Made}
-use Rattle.explainer.specs.declared.moments.Made.TheVariants.{Next, Grant, Try, Tally}
+use Rattle.explainer.specs.declared.moments.Made.TheVariants.{Next}
 use Rattle.explainer.specs.declared.moments.Moment.{Moment}
-use Rattle.explainer.specs.declared.moments.NextAnswer.{NextAnswer}
 use Rattle.explainer.specs.declared.moments.NextAnswer.TheVariants.{Line, End}
-use Rattle.explainer.specs.declared.moments.NextRefusal.{NextRefusal}
-use Rattle.explainer.proofs.AtEachs.{carried, each_both}
-use Rattle.explainer.proofs.Counted.{AnswersOwn, Left, IsCounted, left_none, next_counted}
-use Rattle.explainer.proofs.LastMade.{until_last}
-use Rattle.explainer.proofs.LawFacts.{next_turn}
-use Rattle.explainer.proofs.UntilEnds.{IsMadeNext, made_next, Chosen, chosen_stages, chosen_after, last_after, until_end_ended}
-use Rattle.report.specs.Ends.{ends, ended_by, finish, most_turns, finished}
-use Rattle.report.specs.LastCall.{ended_made}
+use Rattle.explainer.specs.declared.moments.NextRefusal.TheVariants.{Full, Spent}
+use Rattle.explainer.proofs.LastMade.{last_push, until_last, until_push}
+use Rattle.explainer.proofs.NextFacts.{runs, come_to, next_keeps, refused_is}
+use Rattle.explainer.specs.NextLaw.{Answers}
+use Rattle.explainer.proofs.NextReads.{turn_of, IsNext, next_read}
+use Rattle.explainer.proofs.Preferred.{preferring_orders}
+use Rattle.explainer.proofs.Stagings.{after_append}
+use Rattle.explainer.proofs.UntilEnds.{IsMadeNext, made_next, until_end_ended}
+use Rattle.report.specs.Ends.{Finished, ends, ended_by, finish, most_turns, finished}
+use Rattle.report.specs.LastCall.{ended_next, ended_made}
+use Rattle.report.specs.PileRuns.{IsPileRun, EndsAsSteps}
 use Rattle.report.specs.Piles.{own_label}
 use Rattle.report.specs.declared.texts.Ended.{Ended}
-use Rattle.report.specs.declared.texts.Ended.TheVariants.{All, Full, Spent}
+use Rattle.report.specs.declared.texts.Ended.TheVariants as how
+use Rattle.report.proofs.Taking.{IsEndless, chain_takes}
 
 -- after a call that ended the listing none is chosen
-none_after : (made : Made) → EndsListing made → after_line made ≡ None
-none_after (Next (Ok (Line x))) ends = absurd ends
-none_after (Next (Ok End)) ends = refl
-none_after (Next (Err e)) ends = refl
-none_after (Grant checks r) ends = absurd ends
-none_after (Try set r) ends = absurd ends
-none_after (Tally t) ends = absurd ends
+none_after : (n : Option Answer) → EndsListing n → after_line n ≡ None
+none_after None ends = absurd ends
+none_after (Some (Ok (Line x))) ends = absurd ends
+none_after (Some (Ok End)) ends = refl
+none_after (Some (Err e)) ends = refl
 
-stops_then : (past : List Moment) (last : Option Made) → last_made past ≡ last → IsSomeAnd last EndsListing → until_end past ≡ None
+stops_then : (past : List Moment) (last : Option Made) → last_made past ≡ last → IsSomeAnd last (λ made. EndsListing (next_of made)) → until_end past ≡ None
 stops_then past None is ended = absurd ended
-stops_then past (Some made) is ended = until_last past made is ∙ none_after made ended
-
--- where a list behind others stays within a number, there is room for each of its elements
-room_each : (most : ℕ) (past stages : List Stage) → length past + length stages ≤ most → AtEach (λ p x. length p < most) past stages
-room_each most past [] few = tt
-room_each most past (x ∷ stages) few = (
-  omega (arith, few),
-  room_each most (past ++ x ∷ []) stages (omega (arith, few, length-append past (x ∷ []))),
-)
+stops_then past (Some made) is ended = until_last past made is ∙ none_after (next_of made) ended
 
 -- a run that has stopped has so many calls at most
-few_then : (most : ℕ) (stages : List Stage) → HasStopped until_end most (moments stages) → length stages ≤ most
-few_then most stages (inl full) = omega (arith, full, length-map stages (λ (x : Stage). x.moment))
-few_then most stages (inr ended) = omega (arith, ended.0, length-map stages (λ (x : Stage). x.moment))
+few_then : (most : ℕ) (past : List Moment) → HasStopped until_end most past → length past ≤ most
+few_then most past (inl full) = omega (arith, full)
+few_then most past (inr ended) = omega (arith, ended.0)
 
--- after some calls the steps, with all checks from the first on, have come to the same state, with a turn left for each further call, and a NEXT is chosen
-record GoesOn (m0 : Meaning) (all : ℕ) (past : List Stage) : Type 0 where
-  left : Left m0 all past
-  turns : ℕ
-  room : length past + turns ≡ most_turns
-  comes : finished m0.width m0.fit all ≡ finish m0.width m0.fit all turns (standing_after m0 past).state
-  goes_on : until_end (moments past) ≡ Some call.Next
+-- what is answered to NEXT where the steps say this, and a check is refused with the label of a ticket
+AnswersOwn : Said → Answer → Type 0
+AnswersOwn (listed x) r = r ≡ Ok (Line x)
+AnswersOwn all_listed r = r ≡ Ok End
+AnswersOwn no_room r = r ≡ Err Full
+AnswersOwn (refused s) r = r ≡ Err (Spent own_label)
 
--- or they have ended there, as the last call tells, and no call is chosen
-record HasCome (m0 : Meaning) (all : ℕ) (past : List Stage) : Type 0 where
-  ended : Ended
-  finishes : finished m0.width m0.fit all ≡ ends ended (standing_after m0 past).state
-  last : ended_made (last_made (moments past)) ≡ Some ended
-  stops : until_end (moments past) ≡ None
+module _ {B : Type 0} (meaning : B → Meaning) (checks : Checks B) (grants : Grants B)
+    (lawful : (b : B) → Lawful (meaning b)) (check_means : ChecksMean meaning checks)
+    (grant_means : GrantsMean meaning grants) (pile : Quota B) (own : pile.label ≡ own_label)
+    (endless : IsEndless meaning pile) where
+  abbrev means : Quota B → Meaning
+  means = quota_meaning meaning
 
--- before the first call
-goes_none : (m0 : Meaning) (all : ℕ) → Lawful m0 → m0.allowance ≡ Some all → GoesOn m0 all []
-goes_none m0 all lawful given =
-    record { left = left_none m0 all lawful given; turns = most_turns; room = refl; comes = refl; goes_on = refl }
+  abbrev asks : Checks (Quota B)
+  asks = QuotaChecks meaning checks
 
-module _ (m0 : Meaning) (all : ℕ) (past : List Stage) (x : Stage) (r : Result NextAnswer NextRefusal) (is : x.moment.made ≡ Next r)
-    (next : IsCounted m0 own_label all past x r) (turns : ℕ) (room : length past + suc turns ≡ most_turns)
-    (comes : finished m0.width m0.fit all ≡ finish m0.width m0.fit all (suc turns) (standing_after m0 past).state) where
-  -- the NEXT of the steps with all that are left
-  next_of_all : Turn
-  next_of_all = next_turn m0 past (all - (standing_after m0 past).state.checks)
+  abbrev m0 : Meaning
+  m0 = means pile
 
-  -- which leaves what the call leaves
-  comes_by : (said : Said) → next_of_all.said ≡ said
-      → finished m0.width m0.fit all ≡ ended_by said (standing_after m0 (past ++ x ∷ [])).state (finish m0.width m0.fit all turns)
-  unfolding finish next_of_all
-  comes_by said told =
-      comes
-      ∙ ap (λ s. ended_by s next_of_all.left (finish m0.width m0.fit all turns)) told
-      ∙ ap (λ st. ended_by said st (finish m0.width m0.fit all turns)) (sym next.state)
+  law : Lawful m0
+  law = quota_lawful pile.number pile.label (meaning pile.below) pile.counted pile.labelled (lawful pile.below)
 
-  -- where it answers no line, it ends both
-  ends_here : (e : Ended) → finished m0.width m0.fit all ≡ ends e (standing_after m0 (past ++ x ∷ [])).state → after_line (Next r) ≡ None
-      → ended_made (Some (Next r)) ≡ Some e → HasCome m0 all (past ++ x ∷ [])
-  ends_here e so none made = record {
-    ended = e;
-    finishes = so;
-    last = ap ended_made (last_after past x ∙ ap (λ m. Some m) is) ∙ made;
-    stops = chosen_after past x ∙ ap after_line is ∙ none;
+  asks_mean : ChecksMean means asks
+  asks_mean o s r p h = quota_checks_mean meaning checks check_means o p s r h
+
+  takes : QuotaTakes meaning checks
+  takes = quota_takes meaning checks check_means
+
+  -- where an explainer over the pile stands: as the steps have come to over what the pile meant at first, with as many
+  -- checks left as were not answered
+  record Stands (a : Explainer (Quota B)) : Type 0 where
+    counts : List ℕ
+    listing : listing_in a ≡ come_to preferring m0 counts
+    width : width_of a ≡ m0.width
+    kept : Kept m0 (means a.oracle)
+    left : pile.number ≡ a.oracle.number + (listing_in a).checks
+    label : a.oracle.label ≡ own_label
+    endless_still : IsEndless meaning a.oracle
+
+  stands_new : (a : Explainer (Quota B)) → IsNew means pile a → Stands a
+  stands_new a new = record {
+    counts = [];
+    listing = new.listing;
+    width = new.width;
+    kept = subst (λ (q : Quota B). Kept m0 (means q)) (sym new.oracle) (kept m0);
+    left = omega (arith, ap (λ (q : Quota B). q.number) new.oracle, ap (λ (st : State). st.checks) new.listing);
+    label = ap (λ (q : Quota B). q.label) new.oracle ∙ own;
+    endless_still = ap (λ (q : Quota B). (meaning q.below).allowance) new.oracle ∙ endless;
   }
 
-  -- so by what it says
-  by_said : (said : Said) → next_of_all.said ≡ said → AnswersOwn own_label said r → GoesOn m0 all (past ++ x ∷ []) ⊎ HasCome m0 all (past ++ x ∷ [])
-  by_said (listed l) told a =
-      inl (record {
-        left = next.next;
-        turns = turns;
-        room = omega (arith, room, length-append past (x ∷ []));
-        comes = comes_by (listed l) told;
-        goes_on = chosen_after past x ∙ ap after_line is ∙ ap (λ q. after_line (Next q)) a;
-      })
-  by_said all_listed told a =
-      inr (ends_here All (comes_by all_listed told) (ap (λ q. after_line (Next q)) a) (ap (λ q. ended_made (Some (Next q))) a))
-  by_said no_room told a =
-      inr (ends_here Full (comes_by no_room told) (ap (λ q. after_line (Next q)) a) (ap (λ q. ended_made (Some (Next q))) a))
-  by_said (refused s) told a =
-      inr (ends_here (Spent own_label) (comes_by (refused s) told) (ap (λ q. after_line (Next q)) a) (ap (λ q. ended_made (Some (Next q))) a))
+  module _ (a b : Explainer (Quota B)) (stands : Stands a) (told : List Told) (r : Answer)
+      (width : width_of b ≡ width_of a)
+      (next : IsNext preferring m0.width means asks m0 (come_to preferring m0 stands.counts) a.oracle told r (listing_in b) b.oracle)
+    where
+      abbrev came : State
+      came = come_to preferring m0 stands.counts
 
-  by_next : GoesOn m0 all (past ++ x ∷ []) ⊎ HasCome m0 all (past ++ x ∷ [])
-  unfolding next_of_all
-  by_next = by_said next_of_all.said refl next.answer
+      -- the steps with as many checks as were answered, and with all that were left
+      abbrev some : Turn
+      some = turn_of preferring m0.width m0 (length told) came
 
--- what is known of each call: how it leads on, that it was chosen, and that there is room for it
-abbrev IsCall : Meaning → List Stage → Stage → Type 0
-IsCall m0 past x = (Joined m0 past x × Chosen past x) × (length past < most_turns)
+      abbrev of_all : Turn
+      of_all = turn_of preferring m0.width m0 (pile.number - came.checks) came
 
-module _ (m0 : Meaning) (all : ℕ) (lawful : Lawful m0) (counted : m0.counted_by ≡ Some own_label) where
-  -- while there are turns a NEXT goes on, or ends both
-  goes_or_ends : (past : List Stage) (x : Stage) (goes : GoesOn m0 all past) (turns : ℕ) → turns ≡ goes.turns → IsCall m0 past x
-      → GoesOn m0 all (past ++ x ∷ []) ⊎ HasCome m0 all (past ++ x ∷ [])
-  goes_or_ends past x goes zero e here = absurd (omega (arith, e, goes.room, here.1))
-  goes_or_ends past x goes (suc turns) e here =
-      let two : ◌≡◌ {A = Option Call} (Some (call_of x.moment.made)) (Some call.Next) = sym here.0.1 ∙ goes.goes_on in
-      let next : IsMadeNext x.moment.made = made_next x.moment.made (cc) in
-      let counts : IsCounted m0 own_label all past x next.0 = next_counted m0 own_label all lawful counted past x next.0 next.1 goes.left here.0.0 in
-      by_next m0 all past x next.0 next.1 counts turns (omega (arith, e, goes.room))
-      (goes.comes ∙ ap (λ n. finish m0.width m0.fit all n (standing_after m0 past).state) (sym e))
+      taken : (a.oracle.number ≡ next.last.number + length told)
+          × (next.last.label ≡ a.oracle.label) × IsEndless meaning next.last
+      taken = chain_takes meaning checks takes told a.oracle next.last stands.endless_still next.chain
 
-  -- so it is with any one call more
-  one_more : (past : List Stage) (x : Stage) → GoesOn m0 all past ⊎ HasCome m0 all past → IsCall m0 past x
-      → GoesOn m0 all (past ++ x ∷ []) ⊎ HasCome m0 all (past ++ x ∷ [])
-  one_more past x (inl goes) here = goes_or_ends past x goes goes.turns refl here
-  one_more past x (inr come) here = let two : ◌≡◌ {A = Option Call} None (Some (call_of x.moment.made)) = sym come.stops ∙ here.0.1 in absurd (cc)
+      checks_are : (listing_in a).checks ≡ came.checks
+      checks_are = ap (λ (s : State). s.checks) stands.listing
 
-  -- and where none is chosen both have ended
-  has_come : (stages : List Stage) → until_end (moments stages) ≡ None → GoesOn m0 all stages ⊎ HasCome m0 all stages → HasCome m0 all stages
-  has_come stages none (inl goes) = let two : ◌≡◌ {A = Option Call} (Some call.Next) None = sym goes.goes_on ∙ none in absurd (cc)
-  has_come stages none (inr come) = come
+      left_over : length told + next.last.number ≡ pile.number - came.checks
+      left_over = omega (arith, taken.0, stands.left, checks_are)
 
--- a run of NEXT until one answers no line: how it ended, and that the steps end so in the same state
-pub finished_as : (m0 : Meaning) (all : ℕ) (past : List Moment) (b : Standing) → m0.counted_by ≡ Some own_label → m0.allowance ≡ Some all → Reached m0 past b
-    → IsRun until_end most_turns m0 past b
-    → (e : Ended) × (finished m0.width m0.fit all ≡ ends e b.state) × (ended_made (last_made past) ≡ Some e)
-finished_as m0 all past b counted given reached run =
-    let stages : List Stage = reached.stages in
-    let none : until_end past ≡ None = stops_then past (last_made past) refl (until_end_ended most_turns m0 past b (omega arith) run) in
-    let few : length stages ≤ most_turns = few_then most_turns stages (subst (HasStopped until_end most_turns) (sym reached.recorded) run.1) in
-    let chosen : AtEach Chosen [] stages = chosen_stages stages (subst (AreChosen until_end) (sym reached.recorded) run.0) in
-    let calls : AtEach (IsCall m0) [] stages =
-    each_both (λ p x. Joined m0 p x × Chosen p x) (λ p x. length p < most_turns) [] stages (each_both (Joined m0) Chosen [] stages reached.joined chosen)
-    (room_each most_turns [] stages (omega (arith, few))) in
-    let done : HasCome m0 all stages =
-    has_come m0 all reached.lawful counted stages (ap until_end reached.recorded ∙ none)
-    (carried (λ p. GoesOn m0 all p ⊎ HasCome m0 all p) (IsCall m0) (one_more m0 all reached.lawful counted) [] stages
-    (inl (goes_none m0 all reached.lawful given)) calls)
-    in (
-      done.ended,
-      done.finishes ∙ ap (λ (s : Standing). ends done.ended s.state) (sym reached.stands),
-      subst (λ l. ended_made (last_made l) ≡ Some done.ended) reached.recorded done.last,
+      -- with no check refused the steps say and leave the same with all that were left
+      more_is_same : IsNotRefused some.said → of_all ≡ some
+      more_is_same told_is =
+          ap (λ n. turn_of preferring m0.width m0 n came) (sym left_over)
+          ∙ runs.10 (preferring m0.width) m0.width m0.fit (length told) next.last.number came told_is
+
+      -- a refused check was refused because nothing was left, with the label of the ticket, and all that were left were
+      -- answered
+      refused_took : (s : ℕ) (e : CheckRefusal) → e ≡ check.Spent (means next.last).label → asks next.last s (Err e) b.oracle
+          → (b.oracle ≡ next.last) × (e ≡ check.Spent own_label) × (next.last.number ≡ 0)
+      refused_took s check.Outside is h = absurd (cc)
+      refused_took s (check.Spent l) is h =
+          let took : Took (Err (check.Spent l)) next.last b.oracle = (takes next.last b.oracle s (Err (check.Spent l)) taken.2 h).0 in
+          (took.0, ap (λ x. check.Spent x) (took.1 ∙ taken.1 ∙ stands.label), took.2)
+
+      refused_so : (s : ℕ) → some.said ≡ refused s → (e : CheckRefusal) → asks next.last s (Err e) b.oracle
+          → (b.oracle ≡ next.last) × (e ≡ check.Spent own_label) × (next.last.number ≡ 0)
+      refused_so s is e h =
+          refused_took s e
+          (refused_is preferring preferring_orders means asks asks_mean m0 law stands.counts a.oracle told r (listing_in b) b.oracle next s is e h).1 h
+
+      -- so in each case, by what the steps say: with all that were left they say and leave the same; the answer is so; and
+      -- the oracle is the one after the answered checks
+      by_said : (x : Said) → some.said ≡ x → Answers asks next.last x r b.oracle → (of_all ≡ some) × AnswersOwn x r × (b.oracle ≡ next.last)
+      unfolding AnswersOwn
+      by_said (listed l) is answer = (more_is_same (subst IsNotRefused (sym is) tt), answer.0, answer.1)
+      by_said all_listed is answer = (more_is_same (subst IsNotRefused (sym is) tt), answer.0, answer.1)
+      by_said no_room is answer = (more_is_same (subst IsNotRefused (sym is) tt), answer.0, answer.1)
+      by_said (refused s) is answer =
+          let took = refused_so s is answer.0 answer.2 in
+          let all : pile.number - came.checks ≡ length told = omega (arith, left_over, took.2) in (
+            ap (λ n. turn_of preferring m0.width m0 n came) all,
+            answer.1 ∙ ap (λ e. Err (passed_on e)) took.1,
+            took.0,
+          )
+
+      went : (of_all ≡ some) × AnswersOwn some.said r × (b.oracle ≡ next.last)
+      went = by_said some.said refl next.said
+
+      said_own : AnswersOwn of_all.said r
+      said_own = subst (λ (t : Turn). AnswersOwn t.said r) (sym went.0) went.1
+
+      left_is : of_all.left ≡ listing_in b
+      left_is = ap (λ (t : Turn). t.left) went.0 ∙ next.left
+
+      -- and the explainer stands there
+      stands_next : Stands b
+      stands_next = record {
+        counts = stands.counts ++ length told ∷ [];
+        listing = sym next.left ∙ sym (after_append (preferring m0.width) m0.width m0.fit stands.counts (length told ∷ []) start);
+        width = width ∙ stands.width;
+        kept = next_keeps preferring preferring_orders means asks asks_mean m0 law stands.counts a.oracle told r (listing_in b) b.oracle next;
+        left = omega (
+          arith,
+          taken.0,
+          stands.left,
+          checks_are,
+          next.grown,
+          ap (λ (s : State). s.checks) next.left,
+          ap (λ (q : Quota B). q.number) went.2,
+        );
+        label = ap (λ (q : Quota B). q.label) went.2 ∙ taken.1 ∙ stands.label;
+        endless_still = ap (λ (q : Quota B). (meaning q.below).allowance) went.2 ∙ taken.2;
+      }
+
+  -- a NEXT that an explainer made: as above, read off its calls
+  module _ (a b : Explainer (Quota B)) (stands : Stands a) (r : Answer)
+      (done : NextDone preferring asks a r b) where
+    read : (told : List Told) × IsNext preferring m0.width means asks m0 (come_to preferring m0 stands.counts) a.oracle told r (listing_in b) b.oracle
+    read =
+        let leads : NextLeads preferring m0.width asks done.told (listing_in a) a.oracle r (listing_in b) b.oracle =
+        subst (λ (w : ℕ). NextLeads preferring w asks done.told (listing_in a) a.oracle r (listing_in b) b.oracle) stands.width done.leads in
+        next_read preferring m0.width means asks asks_mean m0 done.told (come_to preferring m0 stands.counts) a.oracle r (listing_in b) b.oracle stands.kept
+        (subst (λ (s : State). NextLeads preferring m0.width asks done.told s a.oracle r (listing_in b) b.oracle) stands.listing leads)
+
+    -- the steps with all that were left
+    abbrev then : Turn
+    then = turn_of preferring m0.width m0 (pile.number - (come_to preferring m0 stands.counts).checks) (come_to preferring m0 stands.counts)
+
+    next_went : AnswersOwn then.said r × (then.left ≡ listing_in b) × Stands b
+    next_went = (
+      said_own a b stands read.0 r done.width read.1,
+      left_is a b stands read.0 r done.width read.1,
+      stands_next a b stands read.0 r done.width read.1,
     )
+
+  -- how a listing finishes from a state
+  from : (turns : ℕ) → State → Finished
+  from turns st = finish m0.width m0.fit pile.number turns st
+
+  -- the calls that are chosen, from some on
+  Chosen : List Moment → List Moment → Type 0
+  Chosen past xs = AtEach (λ before x. until_end before ≡ Some (call_of x.made)) past xs
+
+  -- what is to be shown of the calls from some on: how the steps finish from where the explainer stands, and that the last
+  -- call tells so
+  Ends : (turns : ℕ) (past xs : List Moment) → State → State → Type 0
+  Ends turns past xs st end = (e : Ended) × (from turns st ≡ ends e end) × (ended_made (last_made (past ++ xs)) ≡ Some e)
+
+  -- after a NEXT that answers no line no call is made
+  no_more : (past : List Moment) (x : Moment) (xs : List Moment) → after_line (next_of x.made) ≡ None → Chosen (past ++ x ∷ []) xs → xs ≡ []
+  unfolding Chosen
+  no_more past x [] none chosen = refl
+  no_more past x (y ∷ xs) none chosen =
+      let two : ◌≡◌ {A = Option Call} None (Some (call_of y.made)) = sym none ∙ sym (until_push past x) ∙ chosen.0 in absurd (cc)
+
+  -- so such a NEXT ends both
+  ends_both : (turns : ℕ) (past : List Moment) (x : Moment) (xs : List Moment) (st : State) (m b : Explainer (Quota B)) (e : Ended) (r : Answer)
+      → x.made ≡ Next r → after_line (Some r) ≡ None → ended_next (Some r) ≡ Some e → from turns st ≡ ends e (listing_in m)
+      → Chosen (past ++ x ∷ []) xs → Leads preferring means asks (QuotaGrants grants) m xs b → Ends turns past (x ∷ xs) st (listing_in b)
+  unfolding Ends
+  ends_both turns past x xs st m b e r is none ended so chosen leads =
+      let last : xs ≡ [] = no_more past x xs (ap (λ made. after_line (next_of made)) is ∙ none) chosen in
+      let here : b ≡ m = subst (λ l. Leads preferring means asks (QuotaGrants grants) m l b) last leads in (
+        e,
+        so ∙ ap (λ (q : Explainer (Quota B)). ends e (listing_in q)) (sym here),
+        ap (λ l. ended_made (last_made (past ++ x ∷ l))) last ∙ ap ended_made (last_push past x) ∙ ap (λ made. ended_next (next_of made)) is ∙ ended,
+      )
+
+  -- by what the steps say of a NEXT that was made
+  ends_by : (turns : ℕ) (past : List Moment) (x : Moment) (xs : List Moment) (st : State) (t : Turn) (m b : Explainer (Quota B)) (r : Answer)
+      → (said : Said) → t.said ≡ said → x.made ≡ Next r → AnswersOwn said r → t.left ≡ listing_in m
+      → from (suc turns) st ≡ ended_by said t.left (from turns)
+      → (until_end (past ++ x ∷ []) ≡ Some call.Next → Ends turns (past ++ x ∷ []) xs (listing_in m) (listing_in b))
+      → Chosen (past ++ x ∷ []) xs → Leads preferring means asks (QuotaGrants grants) m xs b → Ends (suc turns) past (x ∷ xs) st (listing_in b)
+  unfolding AnswersOwn Ends
+  ends_by turns past x xs st t m b r (listed l) said is answer left so onward chosen leads =
+      let goes : until_end (past ++ x ∷ []) ≡ Some call.Next =
+      until_push past x ∙ ap (λ made. after_line (next_of made)) is ∙ ap (λ q. after_line (Some q)) answer in
+      let rest = onward goes in
+      (rest.0, so ∙ ap (from turns) left ∙ rest.1, ap (λ (l : List Moment). ended_made (last_made l)) (sym (append_assoc past (x ∷ []) xs)) ∙ rest.2)
+  ends_by turns past x xs st t m b r all_listed said is answer left so onward chosen leads =
+      ends_both (suc turns) past x xs st m b how.All r is (ap (λ q. after_line (Some q)) answer) (ap (λ q. ended_next (Some q)) answer)
+      (so ∙ ap (ends how.All) left) chosen leads
+  ends_by turns past x xs st t m b r no_room said is answer left so onward chosen leads =
+      ends_both (suc turns) past x xs st m b how.Full r is (ap (λ q. after_line (Some q)) answer) (ap (λ q. ended_next (Some q)) answer)
+      (so ∙ ap (ends how.Full) left) chosen leads
+  ends_by turns past x xs st t m b r (refused s) said is answer left so onward chosen leads =
+      ends_both (suc turns) past x xs st m b (how.Spent own_label) r is (ap (λ q. after_line (Some q)) answer)
+      (ap (λ q. ended_next (Some q)) answer) (so ∙ ap (ends (how.Spent own_label)) left) chosen leads
+
+  -- so it is with any calls
+  ends_from : (xs : List Moment) (turns : ℕ) (past : List Moment) (a b : Explainer (Quota B)) → Stands a → length xs ≤ turns
+      → until_end past ≡ Some call.Next → until_end (past ++ xs) ≡ None → Chosen past xs
+      → Leads preferring means asks (QuotaGrants grants) a xs b → Ends turns past xs (listing_in a) (listing_in b)
+  unfolding Chosen Ends from finish
+  ends_from [] turns past a b stands few goes stops chosen leads =
+      let two : ◌≡◌ {A = Option Call} (Some call.Next) None = sym goes ∙ ap until_end (sym (append-nil past)) ∙ stops in absurd (cc)
+  ends_from (x ∷ xs) zero past a b stands few goes stops chosen leads = absurd (omega (arith, few))
+  ends_from (x ∷ xs) (suc turns) past a b stands few goes stops chosen leads =
+      let two : ◌≡◌ {A = Option Call} (Some (call_of x.made)) (Some call.Next) = sym chosen.0 ∙ goes in
+      let next : IsMadeNext x.made = made_next x.made (cc) in
+      let done : NextDone preferring asks a next.0 leads.0 =
+      subst (λ (made : Made). Does preferring asks (QuotaGrants grants) a made leads.0) next.1 leads.1 in
+      let st : State = come_to preferring m0 stands.counts in
+      let then : Turn = turn_of preferring m0.width m0 (pile.number - st.checks) st in
+      let went = next_went a leads.0 stands next.0 done in
+      ends_by turns past x xs (listing_in a) then leads.0 b next.0 then.said refl next.1 went.0 went.1
+      (ap (finish m0.width m0.fit pile.number (suc turns)) stands.listing)
+      (λ on.
+      ends_from xs turns (past ++ x ∷ []) leads.0 b went.2 (omega (arith, few)) on (ap until_end (append_assoc past (x ∷ []) xs) ∙ stops) chosen.1 leads.3)
+      chosen.1 leads.3
+
+-- a run over a quota of an oracle: how it ended, and that the steps end so in the same state
+module _ {B : Type 0} (meaning : B → Meaning) (checks : Checks B) (grants : Grants B)
+    (lawful : (b : B) → Lawful (meaning b)) (check_means : ChecksMean meaning checks)
+    (grant_means : GrantsMean meaning grants)
+  where
+    pub finished_as : (below : B) (count : ℕ) (past : List Moment) (b : Explainer (Quota B))
+        → (meaning below).allowance ≡ None
+        → IsPileRun meaning checks grants below count most_turns past b
+        → EndsAsSteps meaning below count past b
+    unfolding Chosen Ends from
+    finished_as below count past b endless run =
+        let q : Quota B = run.pile in
+        let still : IsEndless meaning q =
+        ap (λ (p : B). (meaning p).allowance) run.quota.below ∙ endless in
+        let led = run.run.led in
+        let stops : until_end past ≡ None =
+        stops_then past (last_made past) refl
+        (until_end_ended preferring (quota_meaning meaning) (QuotaChecks meaning checks) (QuotaGrants grants) most_turns q past b (omega arith) run.run) in
+        let stands = stands_new meaning checks grants lawful check_means grant_means q run.quota.label still led.first led.new in
+        let so = ends_from meaning checks grants lawful check_means grant_means q run.quota.label still past most_turns [] led.first b stands
+        (few_then most_turns past run.run.stopped) refl stops run.run.chosen led.leads in
+        record {
+          ended = so.0;
+          finishes = ap (λ (p : B). finished (meaning p).width (meaning p).fit (min count limit)) (sym run.quota.below)
+              ∙ ap (finished (meaning q.below).width (meaning q.below).fit) (sym run.quota.number)
+              ∙ ap (finish (meaning q.below).width (meaning q.below).fit q.number most_turns) (sym led.new.listing)
+              ∙ so.1;
+          told = so.2;
+        }

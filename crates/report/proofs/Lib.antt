@@ -5,3 +5,4 @@ pub mod Listings
 pub mod NamedCases
 pub mod Piled
 pub mod Printed
+pub mod Taking

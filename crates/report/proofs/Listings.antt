@@ -10,7 +10,7 @@ use Rattle.listing.specs.RunLaws.{lines_after, IsTurn}
 use Rattle.listing.specs.Steps.{State, start}
 use Rattle.listing.specs.Turns.{Said, listed, all_listed, no_room, refused, Turn, turn, after}
 use Rattle.listing.proofs.Orders.{order_laws}
-use Rattle.explainer.proofs.LawFacts.{runs}
+use Rattle.explainer.proofs.NextFacts.{runs}
 use Rattle.explainer.proofs.Stagings.{after_append}
 use Rattle.report.specs.Ends.{Finished, ended_by, finish, most_turns, finished}
 use Rattle.report.specs.declared.texts.Ended.TheVariants as how
@@ -20,7 +20,8 @@ pub record IsFinished (width : ℕ) (fit : ℕ → Bool) (done : Finished) : Typ
   pub each : All (IsDue width fit) done.state.lines
   pub whole : done.ended ≡ how.All → IsWhole width fit done.state.lines
 
-module _ (width : ℕ) (narrow : width ≤ widest) (fit : ℕ → Bool) (downward : Downward width fit) (all : ℕ) where
+module _ (width : ℕ) (narrow : width ≤ widest) (fit : ℕ → Bool) (downward : Downward width fit)
+    (all : ℕ) where
   -- the state after NEXTs with so many checks each, and the next one with what is left of all
   come_to : List ℕ → State
   come_to given = after (keeps_more width) width fit given start

@@ -14,7 +14,7 @@ use Rattle.rules.proofs.OptionsDecided.{options_decided}
 use Rattle.faces.specs.Verdict as faces
 use Rattle.gaps.specs.Verdict as gaps
 use Rattle.options.specs.Verdict as options
-use Rattle.report.specs.Piles.{piled, PileOf}
+use Rattle.report.specs.Piles.{covered, piled, BelowOf, PileOf}
 
 -- oracles that are each of this width and over these rules
 pub all_meant : (meant : ℕ → List Rule → Meaning) (w width : ℕ) (r rules : List Rule) → r ≡ rules → w ≡ width → meant w r ≡ meant width rules
@@ -43,6 +43,10 @@ module _ (rules : List Rule) (s : ℕ) where
       (and_from (gaps.fit rules s) (faces.fit rules s) (yes_true (gaps_decided rules s) (fit_kind kind.Gaps rules s fit))
       (yes_true (faces_decided rules s) (fit_kind kind.Faces rules s fit)))
 
+pub covered_is : (rules : List Rule) (width : ℕ) → BelowOf rules width (covered rules width)
+covered_is rules width =
+    record { width_is = omega arith; fit_then = all_fit rules; then_fit = fit_all rules; endless = refl }
+
 pub piled_is : (rules : List Rule) (width checks : ℕ) → PileOf rules width checks (piled rules width checks)
 piled_is rules width checks = record {
   width_is = omega arith;
@@ -50,5 +54,4 @@ piled_is rules width checks = record {
   then_fit = fit_all rules;
   allowance_is = refl;
   label_is = label_piled checks;
-  counted_by_is = refl;
 }

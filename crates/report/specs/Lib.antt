@@ -1,7 +1,9 @@
+pub mod Answered
 pub mod Ends
 pub mod Exactly
 pub mod Explained
 pub mod LastCall
 pub mod Named
+pub mod PileRuns
 pub mod Piles
 pub mod Texts

@@ -1,38 +1,39 @@
-// From the bytes of a ticket to those of its report.
-ghost use Rattle.std.specs.Prelude.{◌≡◌, ◌≤◌, Some, IfOk, string_bytes};
+// From the bytes of a ticket to its report.
+ghost use Rattle.std.specs.Prelude.{◌≡◌, ◌≤◌, Some, None};
 ghost use Rattle.sets.specs.Requests.{widest};
 ghost use Rattle.oracle.specs.Meaning.{limit};
 ghost use Rattle.explainer.specs.Moments.{last_made};
-ghost use Rattle.report.specs.LastCall.{ended_made};
-ghost use Rattle.report.specs.Exactly.{IsReportOf};
-ghost use Rattle.report.specs.Explained.{accepted_text, explained};
+ghost use Rattle.report.specs.Answered.{text_told, answer_text, IsAnswered};
+ghost use Rattle.report.specs.Explained.{accepted_text};
+ghost use Rattle.report.specs.LastCall.{ended_next as defined_ended_next, ended_made};
+ghost use Rattle.report.specs.PileRuns.{IsPileRun, EndsAsSteps};
 
-use crate::piles::pile;
+use crate::piles::{below, with_checks};
 use crate::texts::{Ended, Report};
-use explainer::{Made, Moment, NextAnswer, NextRefusal, UntilEnd, run};
+use explainer::{Moment, NextAnswer, NextRefusal, Ran, UntilEnd, Workspace, run};
+use layers::Quota;
 use listing::MOST_LINES;
+use oracle::Oracle;
 use rules::Rule;
 use std::alloc::{AllocError, Global};
-use ticket::{Header, MOST_RULES, read};
+use std::fmt;
+use ticket::{Header, MOST_RULES, TicketFault, read};
 
 const ROOM: usize = MOST_RULES as usize;
 
 // So many NEXTs are enough: one for each line that there is room for, and one that answers none.
 const TURNS: usize = MOST_LINES + 1;
 
-// How a listing ended, by a call; none where it is another than a NEXT that answers no line.
-fn ended_by(made: Made) -> Option<Ended>
-    ensures { result ≡ ended_made (Some made) }
+// How a listing ended, by the answer of a NEXT; none where it is a line, or there was no NEXT.
+fn ended_next(answer: Option<Result<NextAnswer, NextRefusal>>) -> Option<Ended>
+    ensures { result ≡ defined_ended_next answer }
 {
-    match made {
-        Made::Next(Ok(NextAnswer::Line(_))) => None,
-        Made::Next(Ok(NextAnswer::End)) => Some(Ended::All),
-        Made::Next(Err(NextRefusal::Outside)) => None,
-        Made::Next(Err(NextRefusal::Full)) => Some(Ended::Full),
-        Made::Next(Err(NextRefusal::Spent { label })) => Some(Ended::Spent { label }),
-        Made::Grant { .. } => None,
-        Made::Try { .. } => None,
-        Made::Tally(_) => None,
+    match answer? {
+        Ok(NextAnswer::Line(_)) => None,
+        Ok(NextAnswer::End) => Some(Ended::All),
+        Err(NextRefusal::Outside) => None,
+        Err(NextRefusal::Full) => Some(Ended::Full),
+        Err(NextRefusal::Spent { label }) => Some(Ended::Spent { label }),
     }
 }
 
@@ -40,44 +41,83 @@ fn ended_by(made: Made) -> Option<Ended>
 fn ended(moments: &[Moment]) -> Option<Ended>
     ensures { result ≡ ended_made (last_made moments.now) }
 {
-    ended_by(moments.last()?.made)
+    ended_next(moments.last()?.made.next_answer())
 }
 
-// The report of an accepted ticket: NEXT until one answers no line.
-fn accepted(heap: Global, header: Header, rules: &[Rule]) -> Result<String, AllocError>
+// NEXT until one answers no line, over a quota of an endless oracle. Generic, since only an oracle
+// of which nothing but the trait is known is bound by its relations: so no call is made but those
+// of the run.
+fn list_all<B: Oracle>(workspace: Workspace, below: B, checks: u32) -> Ran<Quota<B>>
+    requires turns { workspace.turns ≡ TURNS }
+    requires endless { (B.meaning below).allowance ≡ None }
+    ensures run { IsPileRun B.meaning B.check_leads B.grant_leads below checks TURNS
+        result.moments.items result.explainer }
+    ensures ended { EndsAsSteps B.meaning below checks result.moments.items result.explainer }
+{
+    run(workspace, with_checks(below, checks), &UntilEnd)
+}
+
+// The report of an accepted ticket. All memory that it takes is in the workspace.
+fn accepted(workspace: Workspace, header: Header, rules: &[Rule]) -> Report
+    requires turns { workspace.turns ≡ TURNS }
     requires requests { header.requests ≤ widest }
     requires checks { header.checks ≤ limit }
-    ensures { IfOk result (λ s. string_bytes s ≡ accepted_text header rules.now) }
+    ensures { text_told result ≡ accepted_text header rules.now }
 {
-    let oracle = pile(rules, header.requests, header.checks);
-    let ran = match run(heap, oracle, &UntilEnd, TURNS) {
-        Ok(ran) => ran,
-        Err(unmade) => return Err(unmade.error),
-    };
-    let Some(ended) = ended(ran.moments.as_slice()) else {
+    let Ran { explainer, moments } = list_all(
+        workspace,
+        below(rules, header.requests),
+        header.checks,
+    );
+    let Some(ended) = ended(moments.as_slice()) else {
         unreachable!()
     };
-    let tally = ran.explainer.tally();
-    let report = Report {
+    let tally = explainer.tally();
+    let (_, listing) = explainer.into_parts();
+    Report {
         requests: header.requests,
-        lines: ran.explainer.lines(),
+        listing,
         checks: tally.3,
         bound: tally.4,
         ended,
-    };
-    format!(in heap; "{report}")
+    }
 }
 
-// The report of a ticket: the listing of an accepted one, the refusal of another.
-pub fn explain(heap: Global, text: &[u8]) -> Result<String, AllocError>
-    ensures answer { IfOk result (λ s. string_bytes s ≡ explained text.now) }
-    ensures exact { IfOk result (λ s. IsReportOf text.now (string_bytes s)) }
+/// What a ticket is answered with. Printed it is the report, or the line of the refusal.
+#[derive(Drop)]
+pub enum Answer {
+    // The report of an accepted ticket.
+    Report(Report),
+    // The fault of a refused one, as it was read.
+    Refused(TicketFault),
+}
+
+impl fmt::Display for Answer {
+    ghost output = { λ a. Some (answer_text a) };
+
+    fn fmt<W: fmt::Write>(&self, f: &mut fmt::Formatter<W>) -> fmt::Result {
+        match self {
+            Answer::Report(report) => write!(f, "{report}"),
+            Answer::Refused(fault) => write!(f, "refused={fault}\n"),
+        }
+    }
+}
+
+/// Answers a ticket: an accepted one with the report of its listing, for which it may want for
+/// memory, and a refused one with its fault, for which it may not.
+pub fn explain(heap: Global, text: &[u8]) -> Result<Answer, AllocError>
+    ensures { IsAnswered text.now result }
 {
     // A table, since `read` fills a list that is lent to it.
     let mut rules = [Rule::blank(); ROOM];
-    // Both answers are printed, so neither leaves by `?`. Of the table only the rules that were read are handed on.
-    match read(text, &mut rules) {
-        Ok(header) => accepted(heap, header, &rules[..header.rules as usize]),
-        Err(fault) => format!(in heap; "refused={fault}\n"),
-    }
+    // Both are answers, so neither leaves by `?`. Of the table only the rules that were read are
+    // handed on.
+    let header = match read(text, &mut rules) {
+        Ok(header) => header,
+        Err(fault) => return Ok(Answer::Refused(fault)),
+    };
+    // All memory is taken here.
+    let workspace = Workspace::new(heap, TURNS)?;
+    let report = accepted(workspace, header, &rules[..header.rules as usize]);
+    Ok(Answer::Report(report))
 }

@@ -7,10 +7,11 @@ mod explained;
 mod piles;
 mod texts;
 
-pub use explained::explain;
-pub use piles::{Pile, pile};
+pub use explained::{Answer, explain};
+pub use piles::{Below, Pile, pile};
+pub use texts::Report;
 
-// The definitions yield each worked ticket as it should be, by computation: see specs/Named.antt.
+/// The definitions yield each worked ticket as it should be, by computation: see specs/Named.antt.
 pub fn named_cases_hold()
     ensures { NamedCases }
 {}

@@ -1,9 +1,10 @@
 // The report as text.
 ghost use Rattle.std.specs.Prelude.{Some};
 ghost use Rattle.sets.specs.Sets.{bits_of};
-ghost use Rattle.report.specs.Texts.{set_text, line_text, ended_text, report_text};
+ghost use Rattle.report.specs.Answered.{text_told};
+ghost use Rattle.report.specs.Texts.{set_text, line_text, ended_text};
 
-use listing::Line;
+use listing::{Line, Listing};
 use oracle::WIDEST;
 use sets::Set;
 use std::fmt;
@@ -68,23 +69,23 @@ impl fmt::Display for Ended {
     }
 }
 
-// All that is told of an accepted ticket.
-#[derive(Clone, Copy)]
-pub(crate) struct Report<'a> {
-    pub requests: u32,
-    pub lines: &'a [Line],
-    pub checks: usize,
-    pub bound: usize,
-    pub ended: Ended,
+/// All that is told of an accepted ticket. It is printed without memory of its own.
+#[derive(Drop)]
+pub struct Report {
+    pub(crate) requests: u32,
+    pub(crate) listing: Listing,
+    pub(crate) checks: usize,
+    pub(crate) bound: usize,
+    pub(crate) ended: Ended,
 }
 
-impl<'a> fmt::Display for Report<'a> {
-    ghost output = { λ r. Some (report_text r.requests r.lines.now r.checks r.bound r.ended) };
+impl fmt::Display for Report {
+    ghost output = { λ r. Some (text_told r) };
 
     fn fmt<W: fmt::Write>(&self, f: &mut fmt::Formatter<W>) -> fmt::Result {
         let requests = self.requests;
         write!(f, "requests={requests}\n")?;
-        for line in self.lines {
+        for line in self.listing.lines() {
             write!(f, "{}", KeyedLine(*line))?;
         }
         let checks = self.checks;

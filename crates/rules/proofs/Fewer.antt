@@ -69,7 +69,7 @@ rules_downward k decide rules width t s inside within fit =
 
 pub rule_lawful : (k : Kind) (decide : Decision k) (rules : List Rule) (width : ℕ) → width ≤ widest → Lawful (meant_by k decide width rules)
 rule_lawful k decide rules width narrow =
-    record { narrow = narrow; counted = tt; labelled = lit≤ tt; told = tt; downward = rules_downward k decide rules width }
+    record { narrow = narrow; counted = tt; labelled = lit≤ tt; downward = rules_downward k decide rules width }
 
 -- whether a search finds something is the verdict
 pub found_fit :

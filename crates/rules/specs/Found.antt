@@ -1,4 +1,5 @@
--- The verdict over the rules of one kind, what an oracle over them means, and what a search finds. Assumes nothing.
+-- The verdict over the rules of one kind, what an oracle over them means, and what a search finds.
+-- Assumes nothing.
 use Rattle.std.specs.Prelude.{ℕ, Bool, true, false, List, Some, None, Option}
 use Rattle.std.proofs.Math.Logic.{ite}
 use Rattle.oracle.specs.Meaning.{Meaning}
@@ -7,7 +8,8 @@ use Rattle.rules.specs.Force.{said}
 use Rattle.rules.specs.declared.Kind.{Kind}
 use Rattle.rules.specs.declared.Rule.{Rule}
 
--- of every list of rules and every set, whether some choice meets each rule of the kind that is in force
+-- of every list of rules and every set, whether some choice meets each rule of the kind that is in
+-- force
 abbrev pub Decision : Kind → Type 0
 Decision k = (rules : List Rule) (s : ℕ) → Dec (FitBy k rules s)
 
@@ -17,9 +19,11 @@ fit_by k decide rules s = ite (decide rules s) true false
 
 -- what an oracle over a list of rules means: its checks are endless, and its label is 0
 abbrev pub meant_by : (k : Kind) → Decision k → (width : ℕ) → List Rule → Meaning
-meant_by k decide width rules = record { width = width; fit = fit_by k decide rules; allowance = None; label = 0; counted_by = None }
+meant_by k decide width rules =
+    record { width = width; fit = fit_by k decide rules; allowance = None; label = 0 }
 
--- a choice that meets every rule of the kind that is in force for the set; none where no choice meets them
+-- a choice that meets every rule of the kind that is in force for the set; none where no choice
+-- meets them
 abbrev pub FoundBy : Kind → List Rule → ℕ → Option Choice → Type 0
 FoundBy k rules s (Some c) = Every (MeetsKind k c) (said s rules)
 FoundBy k rules s None = FitBy k rules s → ⊥

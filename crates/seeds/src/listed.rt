@@ -1,5 +1,5 @@
 // A listing made by the seed and by halving alone, of a verdict that is known beforehand.
-use listing::{Line, MOST_LINES, Outcome, Search, halving};
+use listing::{Line, MOST_LINES, Outcome, Room, Search, halving};
 use sets::Set;
 use std::alloc::{AllocError, Global};
 
@@ -36,7 +36,7 @@ const MOST_ANSWERS: u32 = 64;
 impl Listed {
     pub fn new(heap: Global, width: u32) -> Result<Listed, AllocError> {
         Ok(Listed {
-            search: Search::new(heap, width)?,
+            search: Search::new(Room::new(heap)?, width),
             checks: 0,
         })
     }
@@ -46,7 +46,8 @@ impl Listed {
         verdict.is_fit(set)
     }
 
-    // The part of an unfit seed with which a halving ends; none where it does not end in time, which it always does.
+    // The part of an unfit seed with which a halving ends; none where it does not end in time,
+    // which it always does.
     fn halve<V: Verdict>(
         &mut self,
         heap: Global,

@@ -1,4 +1,5 @@
-// Prints seeds of some families of verdicts: with the minimal conflicts listed, the first two seeds, and the last of up to 512 lines.
+// Prints seeds of some families of verdicts: with the minimal conflicts listed, the first two
+// seeds, and the last of up to 512 lines.
 #![tactic(auto)]
 
 mod family;
@@ -11,7 +12,7 @@ mod trial;
 
 use family::{FAMILIES, Family, WIDTH};
 use listed::{Listed, Without};
-use listing::{Line, MOST_LINES, Search};
+use listing::{Line, MOST_LINES, Room, Search};
 use sets::Set;
 use shown::Shown;
 use std::time::{Duration, Instant};
@@ -19,7 +20,7 @@ use std::{env, io};
 
 // The search of a family with its minimal conflicts alone listed.
 fn given(rt: &HostRuntime, family: Family) -> io::Result<Search> {
-    let mut search = Search::new(rt.alloc(), WIDTH)?;
+    let mut search = Search::new(Room::new(rt.alloc())?, WIDTH);
     for conflict in family.conflicts(rt.alloc())?.iter() {
         let _ = search.list(Line::Conflict(*conflict));
     }
@@ -58,7 +59,8 @@ fn named(name: &str) -> Option<Family> {
     FAMILIES.into_iter().find(|family| family.name() == name)
 }
 
-// Lists a family by the seed and by halving alone, to the end or to 512 lines, and says how long the longest line took.
+// Lists a family by the seed and by halving alone, to the end or to 512 lines, and says how long
+// the longest line took.
 fn measure(rt: &HostRuntime, family: Family) -> io::Result<()> {
     let conflicts = family.conflicts(rt.alloc())?;
     let verdict = Without {

@@ -1,2 +1,4 @@
+pub mod Loose
+pub mod Meant
 pub mod Probing
 pub mod Roaming

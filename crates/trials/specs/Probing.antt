@@ -7,15 +7,19 @@ use Rattle.oracle.specs.Meaning.{Meaning, limit, last_label, Counted, Lawful}
 
 -- a set is fit if it is part of a given one
 abbrev pub probing : (width whole : ℕ) → Option ℕ → (label : ℕ) → Meaning
-probing width whole allowance label = record { width = width; fit = λ s. part s whole; allowance = allowance; label = label; counted_by = None }
+probing width whole allowance label =
+    record { width = width; fit = λ s. part s whole; allowance = allowance; label = label }
 
 -- it keeps the law of an oracle
-pub probing_lawful : (width whole : ℕ) (allowance : Option ℕ) (label : ℕ) → width ≤ widest → ForSome allowance (λ left. left ≤ limit) → label ≤ last_label
+pub probing_lawful : (width whole : ℕ) (allowance : Option ℕ) (label : ℕ) → width ≤ widest
+    → ForSome allowance (λ left. left ≤ limit) → label ≤ last_label
     → Lawful (probing width whole allowance label)
 probing_lawful width whole allowance label narrow counted labelled = record {
   narrow = narrow;
-  counted = elim allowance as (λ a. ForSome a (λ left. left ≤ limit) → Counted a) [ None ↦ λ few. tt | Some left ↦ λ few. few left refl ] counted;
+  counted =
+      elim allowance as (λ a. ForSome a (λ left. left ≤ limit) → Counted a)
+      [ None ↦ λ few. tt | Some left ↦ λ few. few left refl ] counted;
   labelled = labelled;
-  told = tt;
-  downward = λ t s near part fit. true_part t whole (part_trans t s whole part (part_true s whole fit));
+  downward =
+      λ t s near part fit. true_part t whole (part_trans t s whole part (part_true s whole fit));
 }

@@ -8,7 +8,8 @@ use Rattle.layers.specs.Laws.{under_part}
 
 -- a set is fit if it is part of one of those given
 abbrev pub roaming : (width : ℕ) (wholes : List ℕ) → Option ℕ → (label : ℕ) → Meaning
-roaming width wholes allowance label = record { width = width; fit = λ s. under_one s wholes; allowance = allowance; label = label; counted_by = None }
+roaming width wholes allowance label =
+    record { width = width; fit = λ s. under_one s wholes; allowance = allowance; label = label }
 
 -- it keeps the law of an oracle
 pub roaming_lawful : (width : ℕ) (wholes : List ℕ) (allowance : Option ℕ) (label : ℕ)
@@ -16,8 +17,9 @@ pub roaming_lawful : (width : ℕ) (wholes : List ℕ) (allowance : Option ℕ) 
     → Lawful (roaming width wholes allowance label)
 roaming_lawful width wholes allowance label narrow counted labelled = record {
   narrow = narrow;
-  counted = elim allowance as (λ a. ForSome a (λ left. left ≤ limit) → Counted a) [ None ↦ λ few. tt | Some left ↦ λ few. few left refl ] counted;
+  counted =
+      elim allowance as (λ a. ForSome a (λ left. left ≤ limit) → Counted a)
+      [ None ↦ λ few. tt | Some left ↦ λ few. few left refl ] counted;
   labelled = labelled;
-  told = tt;
   downward = λ t s near part fit. under_part t s wholes part fit;
 }

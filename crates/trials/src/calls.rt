@@ -2,7 +2,7 @@
 use crate::search::Lot;
 use crate::watched::{Watch, all_checks, table_of};
 use crate::wild::Plan;
-use explainer::{Call, Calls, Made, Moment, NextAnswer, NextRefusal, run};
+use explainer::{Call, Calls, Made, Moment, NextAnswer, NextRefusal, Workspace, run};
 use listing::Line;
 use sets::Set;
 use std::alloc::{AllocError, Global};
@@ -93,10 +93,8 @@ fn play(rt: &impl Abort, heap: Global, lot: &mut Lot, width: u32) -> Result<(usi
     let caller = Calls {
         list: calls.as_slice(),
     };
-    match run(heap, plan.made(), &caller, calls.len()) {
-        Ok(ran) => assert_eq!(rt; ran.moments.as_slice(), moments.as_slice()),
-        Err(unmade) => return Err(unmade.error.into()),
-    }
+    let ran = run(Workspace::new(heap, calls.len())?, plan.made(), &caller);
+    assert_eq!(rt; ran.moments.as_slice(), moments.as_slice());
     watch.finish(rt, all_checks(heap, plan)?);
     Ok(told(moments.as_slice()))
 }

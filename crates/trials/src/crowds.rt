@@ -1,9 +1,8 @@
 // The reports of tickets with as many lines as there is room for, and with more. Their requests stand in groups, one behind the other, and cannot be met
 // together where all of a group are in.
 use crate::made::options;
-use crate::texts::{Tail, report, ticket};
+use crate::texts::{Tail, printed, report, ticket};
 use listing::Line;
-use report::explain;
 use rules::Rule;
 use sets::Set;
 use std::alloc::{AllocError, Global};
@@ -195,7 +194,7 @@ fn each_crowd(rt: &impl Abort, heap: Global, crowds: &[Crowd]) -> Result<(), Fai
         let groups = groups_of(heap, crowd.sizes)?;
         let rules = rules_of(heap, crowd.requests, groups.as_slice())?;
         let text = ticket(heap, crowd.requests, crowd.given, rules.as_slice())?;
-        let told = explain(heap, text.as_bytes())?;
+        let told = printed(heap, text.as_bytes())?;
         let lines = lines_of(heap, crowd, groups.as_slice())?;
         let want = report(heap, crowd.requests, lines.as_slice(), crowd.tail)?;
         assert_eq!(rt; told.as_str(), want.as_str());

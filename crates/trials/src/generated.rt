@@ -2,9 +2,8 @@
 use crate::made::options;
 use crate::search::{Heeded, Lot};
 use crate::tables::{MOST, Table, bound, falls, is_conflict};
-use crate::texts::{Tail, number, report, ticket};
+use crate::texts::{Tail, number, printed, report, ticket};
 use listing::Line;
-use report::explain;
 use rules::{Kind, Rule};
 use sets::Set;
 use std::alloc::{AllocError, Global};
@@ -99,7 +98,7 @@ fn agrees(
     let lines = table.listed(heap)?;
     are_due(rt, number_of, width, &table, lines.as_slice());
     let text = ticket(heap, width, PLENTY, rules)?;
-    let told = explain(heap, text.as_bytes())?;
+    let told = printed(heap, text.as_bytes())?;
     let checks = number(told.as_str(), "checks=").unwrap_or(0);
     let tail = Tail {
         checks,
@@ -168,7 +167,7 @@ fn stops(
     lines: &[Line],
 ) -> Result<usize, Fail> {
     let text = ticket(heap, width, given, rules)?;
-    let told = explain(heap, text.as_bytes())?;
+    let told = printed(heap, text.as_bytes())?;
     let count = told.lines().count().saturating_sub(4);
     let come = lines.get(..count).unwrap_or(&[]);
     let tail = Tail {
@@ -185,7 +184,7 @@ fn stops(
 fn stops_at_each(rt: &impl Abort, heap: Global, width: u32, rules: &[Rule]) -> Result<(), Fail> {
     let lines = table_of(width, rules).listed(heap)?;
     let text = ticket(heap, width, PLENTY, rules)?;
-    let told = explain(heap, text.as_bytes())?;
+    let told = printed(heap, text.as_bytes())?;
     let full = number(told.as_str(), "checks=").unwrap_or(0);
     let mut last: usize = 0;
     for given in 0..=full {

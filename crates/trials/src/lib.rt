@@ -16,6 +16,8 @@ mod generated;
 #[cfg(test)]
 mod kinds;
 #[cfg(test)]
+mod labels;
+#[cfg(test)]
 mod layered;
 mod made;
 #[cfg(test)]

@@ -53,7 +53,8 @@ pub fn ask<O: Oracle>(oracle: &mut O, bits: u32) -> Told {
         .map_or_else(Told::from, Told::from)
 }
 
-fn grant<O: Oracle>(oracle: &mut O, checks: u32) -> Told {
+// What it answers to a grant of so many checks.
+pub fn grant<O: Oracle>(oracle: &mut O, checks: u32) -> Told {
     oracle
         .grant(checks)
         .map_or_else(Told::from, |()| Told::Granted)

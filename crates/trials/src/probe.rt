@@ -4,7 +4,7 @@ ghost use Rattle.std.specs.Option.{ForSome};
 ghost use Rattle.oracle.specs.Meaning.{limit, last_label};
 ghost use Rattle.sets.specs.Requests.{widest};
 ghost use Rattle.sets.specs.Sets.{bits_of};
-ghost use Rattle.trials.specs.Probing.{probing, probing_lawful};
+ghost use Rattle.trials.specs.Probing.{probing_lawful};
 
 use oracle::{CheckRefusal, GrantRefusal, LIMIT, Oracle, Verdict, WIDEST, granted, refuse_outside};
 use sets::Set;
@@ -24,7 +24,14 @@ pub struct Probe {
 }
 
 impl Oracle for Probe {
-    ghost meaning = { λ o. probing o.width (bits_of o.whole) o.allowance o.label };
+    ghost use Rattle.trials.specs.Loose.{LooseChecks, LooseGrants};
+    ghost use Rattle.trials.specs.Meant.{probe_meaning};
+
+    ghost meaning = { probe_meaning };
+
+    ghost check_leads = { LooseChecks probe_meaning };
+
+    ghost grant_leads = { LooseGrants probe_meaning };
 
     fn width(&self) -> u32 {
         self.width
@@ -57,6 +64,10 @@ impl Oracle for Probe {
     }
 
     ghost lawful = { λ o. probing_lawful o.width (bits_of o.whole) o.allowance o.label o.narrow o.counted o.labelled };
+
+    ghost check_means = { λ o s r p led. led };
+
+    ghost grant_means = { λ o k r p led. led };
 }
 
 impl Probe {

@@ -1,6 +1,5 @@
 // The reports of single tickets, written out: the worked one, the least and the greatest, and refused ones.
-use crate::texts::ticket;
-use report::explain;
+use crate::texts::{printed, ticket};
 use rules::Rule;
 use std::alloc::{AllocError, Global};
 use std::test::Fail;
@@ -78,7 +77,7 @@ const CASES: [Case; 13] = [
 #[test]
 fn reports_written_out(rt: HostRuntime) -> Result<(), Fail> {
     for Case(text, want) in &CASES {
-        let told = explain(rt.alloc(), text.as_bytes())?;
+        let told = printed(rt.alloc(), text.as_bytes())?;
         assert_eq!(rt; told.as_str(), *want, "{text}");
     }
     Ok(())
@@ -138,7 +137,7 @@ const REFUSED: [Case; 14] = [
 #[test]
 fn refusals_written_out(rt: HostRuntime) -> Result<(), Fail> {
     for Case(text, want) in &REFUSED {
-        let told = explain(rt.alloc(), text.as_bytes())?;
+        let told = printed(rt.alloc(), text.as_bytes())?;
         assert_eq!(rt; told.as_str(), *want, "{text}");
     }
     Ok(())
@@ -149,7 +148,7 @@ fn refusals_written_out(rt: HostRuntime) -> Result<(), Fail> {
 fn longest_text(rt: HostRuntime) -> Result<(), Fail> {
     for (length, want) in [(16_384, "refused=3,1,0\n"), (16_385, "refused=1,0,0\n")] {
         let text = vec![in rt.alloc(); b'\n'; length]?;
-        let told = explain(rt.alloc(), text.as_slice())?;
+        let told = printed(rt.alloc(), text.as_slice())?;
         assert_eq!(rt; told.as_str(), want, "{length}");
     }
     Ok(())
@@ -163,7 +162,7 @@ fn with_rules(heap: Global, count: usize) -> Result<String, AllocError> {
     }
     rules.push(Rule::gap(2, 3, 3, -1))?;
     let text = ticket(heap, 2, 1_000_000, rules.as_slice())?;
-    explain(heap, text.as_bytes())
+    printed(heap, text.as_bytes())
 }
 
 #[test]

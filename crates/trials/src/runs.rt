@@ -5,7 +5,8 @@ ghost use Rattle.explainer.specs.declared.moments.Call.TheVariants.{Next};
 use crate::made::options;
 use crate::wild::Plan;
 use explainer::{
-    Call, Caller, Calls, Counts, Made, Moment, NextAnswer, NextRefusal, Ran, UntilEnd, run,
+    Call, Caller, Calls, Counts, Made, Moment, NextAnswer, NextRefusal, Ran, UntilEnd, Workspace,
+    run,
 };
 use listing::Line;
 use oracle::{CheckRefusal, GrantRefusal, Oracle, Verdict};
@@ -121,17 +122,14 @@ fn worked_calls(heap: Global) -> Result<Vec<Moment>, AllocError> {
     first_calls().into_iter().chain(other_calls()).collect(heap)
 }
 
-// A run that no memory was wanting for.
+// A run of so many turns at most.
 fn ran<O: Oracle + Drop, C: Caller>(
     heap: Global,
     oracle: O,
     caller: &C,
     turns: usize,
 ) -> Result<Ran<O>, AllocError> {
-    match run(heap, oracle, caller, turns) {
-        Ok(ran) => Ok(ran),
-        Err(unmade) => Err(unmade.error),
-    }
+    Ok(run(Workspace::new(heap, turns)?, oracle, caller))
 }
 
 // Fewer turns than calls, none, as many, and more.

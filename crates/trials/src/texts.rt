@@ -1,5 +1,6 @@
 // Tickets and reports as text, written from docs/TICKET.md and from what a report is to say. They share no step with the reader and with the report.
 use listing::Line;
+use report::explain;
 use rules::{Body, Rule};
 use sets::{Mask, Set};
 use std::alloc::{AllocError, Global};
@@ -112,4 +113,10 @@ pub fn number(told: &str, key: &str) -> Option<usize> {
         .find_map(|line| line.strip_prefix(key))?
         .parse()
         .ok()
+}
+
+// What is printed of the answer to a ticket.
+pub fn printed(heap: Global, text: &[u8]) -> Result<String, AllocError> {
+    let answer = explain(heap, text)?;
+    format!(in heap; "{answer}")
 }

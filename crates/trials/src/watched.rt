@@ -1,7 +1,9 @@
 // An explainer over a wild oracle, of which each call is held against the listing by trying every set.
 use crate::tables::{Table, bound, is_conflict, sizes};
 use crate::wild::{Plan, Wild};
-use explainer::{Call, Counts, Explainer, Made, Moment, NextAnswer, NextRefusal, UntilEnd, run};
+use explainer::{
+    Call, Counts, Explainer, Made, Moment, NextAnswer, NextRefusal, UntilEnd, Workspace, run,
+};
 use listing::Line;
 use oracle::{CheckRefusal, GrantRefusal, Verdict};
 use sets::Set;
@@ -27,10 +29,8 @@ pub fn all_checks(heap: Global, plan: Plan<'_>) -> Result<usize, AllocError> {
         allowance: None,
         ..plan
     };
-    match run(heap, endless.made(), &UntilEnd, TURNS) {
-        Ok(ran) => Ok(ran.explainer.tally().3),
-        Err(unmade) => Err(unmade.error),
-    }
+    let ran = run(Workspace::new(heap, TURNS)?, endless.made(), &UntilEnd);
+    Ok(ran.explainer.tally().3)
 }
 
 #[derive(Drop)]
@@ -48,17 +48,14 @@ pub struct Watch<'a> {
 
 impl<'a> Watch<'a> {
     pub fn new(heap: Global, plan: Plan<'a>, lines: &'a [Line]) -> Result<Watch<'a>, AllocError> {
-        match Explainer::new(heap, plan.made()) {
-            Ok(explainer) => Ok(Watch {
-                explainer,
-                plan,
-                table: table_of(plan),
-                lines,
-                come: 0,
-                others: 0,
-            }),
-            Err(unmade) => Err(unmade.error),
-        }
+        Ok(Watch {
+            explainer: Explainer::new(Workspace::new(heap, 0)?, plan.made()),
+            plan,
+            table: table_of(plan),
+            lines,
+            come: 0,
+            others: 0,
+        })
     }
 
     // The label of the oracle by now: its first, and one more for each answer.

@@ -6,7 +6,7 @@ ghost use Rattle.layers.specs.Layered.{under_one};
 ghost use Rattle.oracle.specs.Meaning.{limit, last_label};
 ghost use Rattle.sets.specs.Requests.{widest};
 ghost use Rattle.sets.specs.Sets.{bits_of};
-ghost use Rattle.trials.specs.Roaming.{roaming, roaming_lawful};
+ghost use Rattle.trials.specs.Roaming.{roaming_lawful};
 
 use oracle::{CheckRefusal, GrantRefusal, LIMIT, Oracle, Verdict, WIDEST, granted, refuse_outside};
 use sets::Set;
@@ -38,7 +38,14 @@ impl<'a> Wild<'a> {
 }
 
 impl<'a> Oracle for Wild<'a> {
-    ghost meaning = { λ o. roaming o.width o.wholes.now o.allowance o.label };
+    ghost use Rattle.trials.specs.Loose.{LooseChecks, LooseGrants};
+    ghost use Rattle.trials.specs.Meant.{wild_meaning};
+
+    ghost meaning = { wild_meaning };
+
+    ghost check_leads = { LooseChecks wild_meaning };
+
+    ghost grant_leads = { LooseGrants wild_meaning };
 
     fn width(&self) -> u32 {
         self.width
@@ -72,6 +79,10 @@ impl<'a> Oracle for Wild<'a> {
     }
 
     ghost lawful = { λ o. roaming_lawful o.width o.wholes.now o.allowance o.label o.narrow o.counted o.labelled };
+
+    ghost check_means = { λ o s r p led. led };
+
+    ghost grant_means = { λ o k r p led. led };
 }
 
 // What a wild oracle is made of.

@@ -1,5 +1,5 @@
 use Rattle.explainer.specs.Holding.{state_of}
-use Rattle.explainer.specs.Standings.{standing}
+use Rattle.explainer.specs.Preferring.{preferring}
 use Rattle.explainer.proofs.NextCode.{GoesOn}
 use Rattle.explainer.proofs.NextFalls.{left_of}
 use Rattle.explainer.proofs.asking.Explainer.next.Given as goal
@@ -10,4 +10,4 @@ decreases-loop-line g l = left_of (state_of l.self.progress)
 
 -- what is done from here is done from the first
 abbrev pub invariant-loop-line : goal.invariant-loop-line
-invariant-loop-line g l = GoesOn (standing g.O.Oracle.meaning l.initial.self) (standing g.O.Oracle.meaning l.self)
+invariant-loop-line g l = GoesOn preferring g.O.Oracle.check_leads l.initial.self l.self

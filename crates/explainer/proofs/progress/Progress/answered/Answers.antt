@@ -6,6 +6,8 @@ use Rattle.listing.proofs.RunParts.{held}
 use Rattle.explainer.specs.Opened.{open_of}
 use Rattle.explainer.specs.declared.progress.OpenHalving.{OpenHalving}
 use Rattle.explainer.specs.declared.progress.Progress.{Progress}
+use Rattle.explainer.specs.Preferring.{preferring}
+use Rattle.explainer.proofs.Preferred.{preferring_orders}
 use Rattle.explainer.proofs.Progressing.{with_room, checks_most, open_sound, open_room, unfit_sound, line_sound, line_room, IsLed}
 use Rattle.explainer.proofs.progress.Progress.answered.Goals as goal
 use Rattle.explainer.proofs.progress.Progress.answered.Goals.{in-true-false, in-false-true}
@@ -24,19 +26,19 @@ overflow_add-self c = let p = c.args.self.now in omega (arith, checks_most p)
 pub push-requires : goal.push-requires
 push-requires c =
     let p = c.args.self.now in
-    (omega arith, open_room p c.args.set.bits c.args.fit c.requires (as_open c.in-Some.open) (ap open_of c.in-Some.is))
+    (omega arith, open_room preferring preferring_orders p c.args.set.bits c.args.fit c.requires (as_open c.in-Some.open) (ap open_of c.in-Some.is))
 
 pub invariant_of-self : goal.invariant_of-self
 invariant_of-self c =
     let p = c.args.self.now in
-    let sound = open_sound p c.args.set.bits c.args.fit c.requires (as_open c.in-Some.open) (ap open_of c.in-Some.is) in
+    let sound = open_sound preferring preferring_orders p c.args.set.bits c.args.fit c.requires (as_open c.in-Some.open) (ap open_of c.in-Some.is) in
     record { sound = subst (λ xs. IsSound p.search.width (with_open p c.in-Some.open.seed.bits xs)) (sym c.push.ensures.items) sound }
 
 pub invariant_of-self-in-false-false : goal.invariant_of-self-in-false-false
 invariant_of-self-in-false-false c =
     let p = c.args.self.now in
     let sound =
-    unfit_sound p c.args.set.bits c.args.fit c.requires c.in-false-false.is-0 (ap open_of c.in_default.is) c.in-false-false.is-1
+    unfit_sound preferring preferring_orders p c.args.set.bits c.args.fit c.requires c.in-false-false.is-0 (ap open_of c.in_default.is) c.in-false-false.is-1
     in record { sound = subst (λ xs. IsSound p.search.width (with_open p c.args.set.bits xs)) (sym c.new.ensures) sound }
 
 pub invariant_of-self-2 : goal.invariant_of-self-2
@@ -49,8 +51,8 @@ invariant_of-self-2 c =
       | in-false-true w ↦ inr (w.in-false-true.is-0, w.in-false-true.is-1, sym w.line-is)
     ]
     in
-    let room = line_room p c.args.set.bits c.args.fit c.requires c.if-is_first.line shut led in
-    let sound = line_sound p c.args.set.bits c.args.fit c.requires c.if-is_first.line shut led in
+    let room = line_room preferring preferring_orders p c.args.set.bits c.args.fit c.requires c.if-is_first.line shut led in
+    let sound = line_sound preferring preferring_orders p c.args.set.bits c.args.fit c.requires c.if-is_first.line shut led in
     let lines = c.list.ensures.lines ∙ with_room (lines_in p.search) c.if-is_first.line room in
     let listed : IsSound p.search.width (held (lines_in c.list.new.self) (p.checks + 1) (open_of p.halving)) =
     subst (λ xs. IsSound p.search.width (held xs (p.checks + 1) (open_of p.halving))) (sym lines)

@@ -10,11 +10,11 @@ pub invariant_of-result-clause-narrow : goal.invariant_of-result-clause-narrow
 invariant_of-result-clause-narrow c = omega (arith, c.min.ensures)
 
 pub invariant_of-result-clause-room : goal.invariant_of-result-clause-room
-invariant_of-result-clause-room c = omega (arith, c.loop-level.invariant)
+invariant_of-result-clause-room c = omega (arith, c.args.room.room)
 
 pub invariant_of-result-clause-led : goal.invariant_of-result-clause-led
 invariant_of-result-clause-led c =
     let w : ℕ = c.min.result in
-    let lines = lines_of c.in_ok-new.field-0 in
+    let lines = lines_of c.args.room.listing in
     let all : c.all.result.bits ≡ everyone w = c.all.ensures ∙ ap everyone (sym c.min.ensures) in
     subst (NothingBefore (keeps_more w) w lines) (sym all) (nothing_at_first w (keeps_more w) (order_laws.0 w) lines)

@@ -1,0 +1,256 @@
+-- What an answer of NEXT says, from what the steps say. Assumes nothing.
+use Rattle.std.proofs.Common.{◌≡◌, ℕ, ◌+◌, ◌-◌, ◌≤◌, ◌↔◌, Bool, true, false, cond, List, ◌++◌, length, Option, Some, None, Ok, Err, refl, sym, ap, ◌∙◌, subst, arith}
+use Rattle.std.proofs.lemmas.List.{append-nil}
+use Rattle.sets.specs.Requests.{Within, within}
+use Rattle.oracle.specs.Asking.{nought, verdict, Checked}
+use Rattle.oracle.specs.Calls.{Checks, ChecksMean}
+use Rattle.oracle.specs.Meaning.{Meaning, Lawful, Kept, Unchanged}
+use Rattle.oracle.specs.declared.CheckRefusal.{CheckRefusal}
+use Rattle.oracle.specs.declared.CheckRefusal.TheVariants as check
+use Rattle.oracle.specs.declared.Verdict.{Verdict}
+use Rattle.oracle.proofs.Checks.{unchanged, kept_on, refused_as}
+use Rattle.listing.specs.Bill.{bound}
+use Rattle.listing.specs.Lines.{most_lines, IsWhole}
+use Rattle.listing.specs.RunLaws.{RunLaws, lines_after, IsTurn, IsNotRefused}
+use Rattle.listing.specs.Steps.{State, start}
+use Rattle.listing.specs.Turns.{Said, listed, all_listed, no_room, refused, after}
+use Rattle.listing.specs.declared.lines.Line as lines
+use Rattle.listing.proofs.Bills.{bill_laws}
+use Rattle.listing.proofs.Falling.{line_laws}
+use Rattle.listing.proofs.HalveLaws.{halving_laws}
+use Rattle.listing.proofs.Orders.{order_laws}
+use Rattle.listing.proofs.RunAll.{run_laws}
+use Rattle.explainer.specs.Chains.{Told, Closes}
+use Rattle.explainer.specs.Law.{enough, IsEnough, IsTrueAnswer}
+use Rattle.explainer.specs.Moments.{Answer, line_of, IsNotSpent}
+use Rattle.explainer.specs.NextLaw.{Answers}
+use Rattle.explainer.specs.Preferring.{Order, AreOrders}
+use Rattle.explainer.specs.Refused.{passed_on}
+use Rattle.explainer.specs.declared.moments.NextAnswer.TheVariants.{End}
+use Rattle.explainer.specs.declared.moments.NextRefusal.TheVariants.{Outside, Full, Spent}
+use Rattle.explainer.proofs.NextReads.{lasts_many, turn_of, IsNext}
+
+-- the laws of the runs of the steps
+pub runs : RunLaws
+runs = run_laws order_laws line_laws halving_laws bill_laws
+
+-- the state that the steps come to by NEXTs with so many checks each
+abbrev pub come_to : Order → Meaning → (counts : List ℕ) → State
+come_to order m0 counts = after (order m0.width) m0.width m0.fit counts start
+
+-- END is answered exactly where all is said to be listed, and FULL where there is said to be no
+-- room
+answers_end : {O : Type 0} (checks : Checks O) (last p : O) (said : Said) (r : Answer)
+    → Answers checks last said r p → (r ≡ Ok End) ↔ (said ≡ all_listed)
+answers_end checks last p (listed x) r a = let is = a.0 in (λ e. absurd (cc), λ e. absurd (cc))
+answers_end checks last p all_listed r a = (λ e. refl, λ e. a.0)
+answers_end checks last p no_room r a = let is = a.0 in (λ e. absurd (cc), λ e. absurd (cc))
+answers_end checks last p (refused s) r a = let is = a.1 in (λ e. absurd (cc), λ e. absurd (cc))
+
+passed_on_full : (e : CheckRefusal) → ◌≡◌ {A = Answer} (Err (passed_on e)) (Err Full) → ⊥
+passed_on_full check.Outside same = cc
+passed_on_full (check.Spent label) same = cc
+
+answers_full : {O : Type 0} (checks : Checks O) (last p : O) (said : Said) (r : Answer)
+    → Answers checks last said r p → (r ≡ Err Full) ↔ (said ≡ no_room)
+answers_full checks last p (listed x) r a = let is = a.0 in (λ e. absurd (cc), λ e. absurd (cc))
+answers_full checks last p all_listed r a = let is = a.0 in (λ e. absurd (cc), λ e. absurd (cc))
+answers_full checks last p no_room r a = (λ e. refl, λ e. a.0)
+answers_full checks last p (refused s) r a =
+    (λ e. absurd (passed_on_full a.0 (sym a.1 ∙ e)), λ e. absurd (cc))
+
+-- what is answered with no check refused is not SPENT
+told_unspent : {O : Type 0} (checks : Checks O) (last p : O) (said : Said) (r : Answer)
+    → Answers checks last said r p → IsNotRefused said → IsNotSpent r
+told_unspent checks last p (listed x) r a told = subst IsNotSpent (sym a.0) tt
+told_unspent checks last p all_listed r a told = subst IsNotSpent (sym a.0) tt
+told_unspent checks last p no_room r a told = subst IsNotSpent (sym a.0) tt
+told_unspent checks last p (refused s) r a told = absurd told
+
+-- which refusal was passed on
+outside_passed : (e : CheckRefusal) → passed_on e ≡ Outside → e ≡ check.Outside
+outside_passed check.Outside same = refl
+outside_passed (check.Spent label) same = absurd (cc)
+
+spent_passed : (e : CheckRefusal) (label : ℕ) → passed_on e ≡ Spent label → e ≡ check.Spent label
+spent_passed check.Outside label same = absurd (cc)
+spent_passed (check.Spent other) label same = cc
+
+-- a refusal reads the width, the allowance and the label, and no verdict
+refused_same : (near spent : Bool) (label : ℕ) (x y : Verdict) (e : CheckRefusal)
+    → Err e ≡ cond near (cond spent (Err (check.Spent label)) (Ok x)) (Err check.Outside)
+    → Err e ≡ cond near (cond spent (Err (check.Spent label)) (Ok y)) (Err check.Outside)
+refused_same true true label x y e is = is
+refused_same true false label x y e is = absurd (cc)
+refused_same false spent label x y e is = is
+
+-- so what refuses a check refuses it again
+refused_again : (m n : Meaning) (s : ℕ) (e : CheckRefusal) → Checked m s (Err e) n
+    → Checked n s (Err e) n
+refused_again m n s e checked =
+    let same : Unchanged m n = checked.1 in
+    let due : ℕ → Option ℕ → ℕ → Type 0 =
+    λ w a l. Err e ≡ cond (within w s) (cond (nought a) (Err (check.Spent l)) (Ok (verdict (n.fit s)))) (Err check.Outside) in
+    let old : due m.width m.allowance m.label =
+    refused_same (within m.width s) (nought m.allowance) m.label (verdict (m.fit s)) (verdict (n.fit s)) e checked.0 in
+    let by_width : due n.width m.allowance m.label = subst (λ w. due w m.allowance m.label) (sym same.kept.width) old in
+    let by_left : due n.width n.allowance m.label = subst (λ a. due n.width a m.label) (sym same.allowance) by_width in
+    (subst (λ l. due n.width n.allowance l) (sym same.label) by_left, unchanged n)
+
+-- 64 checks are enough for the steps
+enough_many : 64 ≤ enough
+enough_many = omega arith
+
+is_enough : (a : Option ℕ) (count : ℕ) → (a ≡ None → ⊥)
+    × ((n : ℕ) → a ≡ Some n → 64 ≤ n → 64 ≤ count) → IsEnough a → 64 ≤ count
+is_enough None count lasts much = absurd (lasts.0 refl)
+is_enough (Some n) count lasts much = lasts.1 n refl (omega (arith, enough_many, much))
+
+module _ {O : Type 0} (order : Order) (orders : AreOrders order) (meaning : O → Meaning)
+    (checks : Checks O) (mean : ChecksMean meaning checks) (m0 : Meaning) (law : Lawful m0)
+    (counts : List ℕ) (o : O) (told : List Told) (r : Answer) (st' : State) (p : O)
+    (next : IsNext order m0.width meaning checks m0 (come_to order m0 counts) o told r st' p) where
+  -- what the steps say, and what holds of it
+  abbrev said : Said
+  said = (turn_of order m0.width m0 (length told) (come_to order m0 counts)).said
+
+  abbrev left : State
+  left = (turn_of order m0.width m0 (length told) (come_to order m0 counts)).left
+
+  holds : IsTurn (order m0.width) m0.width m0.fit (come_to order m0 counts) said left
+  holds =
+      runs.1 (order m0.width) m0.width m0.fit counts (length told) law.narrow (orders m0.width) law.downward
+
+  -- a refused check is of a set within the width, and refused because nothing is left
+  pub refused_is : (s : ℕ) → said ≡ refused s → (e : CheckRefusal) → checks next.last s (Err e) p
+      → Within m0.width s × (e ≡ check.Spent (meaning next.last).label)
+      × ((meaning next.last).allowance ≡ Some 0)
+  refused_is s is e h =
+      let near : Within m0.width s = holds.within s is in
+      let cases =
+      refused_as (meaning next.last) s e (subst (λ w. Within w s) (sym next.kept.width) near) (mean next.last s (Err e) p h).0 in
+      (near, cases.0, cases.1)
+
+  -- width and verdict are kept
+  kept_by : (x : Said) → Answers checks next.last x r p → Kept m0 (meaning p)
+  kept_by (listed l) a = subst (λ (q : O). Kept m0 (meaning q)) (sym a.1) next.kept
+  kept_by all_listed a = subst (λ (q : O). Kept m0 (meaning q)) (sym a.1) next.kept
+  kept_by no_room a = subst (λ (q : O). Kept m0 (meaning q)) (sym a.1) next.kept
+  kept_by (refused s) a =
+      kept_on m0 (meaning next.last) (meaning p) next.kept (mean next.last s (Err a.0) p a.2).1.kept
+
+  pub next_keeps : Kept m0 (meaning p)
+  next_keeps = kept_by said next.said
+
+  -- what follows on the answered checks
+  closes_err : (s : ℕ) → Within m0.width s → (e : CheckRefusal) → checks next.last s (Err e) p
+      → Closes m0.width checks (Err (passed_on e)) next.last p
+  closes_err s near check.Outside h = (s, h)
+  closes_err s near (check.Spent label) h = (s, near, h)
+
+  closes_by : (x : Said) → said ≡ x → Answers checks next.last x r p
+      → Closes m0.width checks r next.last p
+  closes_by (listed l) is a =
+      subst (λ (y : Answer). Closes m0.width checks y next.last p) (sym a.0) a.1
+  closes_by all_listed is a =
+      subst (λ (y : Answer). Closes m0.width checks y next.last p) (sym a.0) a.1
+  closes_by no_room is a =
+      subst (λ (y : Answer). Closes m0.width checks y next.last p) (sym a.0) a.1
+  closes_by (refused s) is a =
+      subst (λ (y : Answer). Closes m0.width checks y next.last p) (sym a.1) (closes_err s (holds.within s is) a.0 a.2)
+
+  pub next_closes : Closes m0.width checks r next.last p
+  next_closes = closes_by said refl next.said
+
+  -- the line that is answered is the one that the steps list
+  answered_by : (x : Said) (ls : List lines.Line) → Answers checks next.last x r p
+      → ls ++ line_of (Some r) ≡ lines_after ls x
+  answered_by (listed l) ls a = ap (λ (q : Answer). ls ++ line_of (Some q)) a.0
+  answered_by all_listed ls a = ap (λ (q : Answer). ls ++ line_of (Some q)) a.0 ∙ append-nil ls
+  answered_by no_room ls a = ap (λ (q : Answer). ls ++ line_of (Some q)) a.0 ∙ append-nil ls
+  answered_by (refused s) ls a = ap (λ (q : Answer). ls ++ line_of (Some q)) a.1 ∙ append-nil ls
+
+  pub next_lines : (come_to order m0 counts).lines ++ line_of (Some r) ≡ left.lines
+  next_lines = answered_by said (come_to order m0 counts).lines next.said ∙ sym holds.grows
+
+  -- no check is refused where enough are allowed: the steps with 64 refuse none
+  many_unrefused : 64 ≤ length told → IsNotRefused said
+  many_unrefused many =
+      let h : ℕ = length told - 64 in
+      let sum : 64 + h ≡ length told = omega arith in
+      let enough_told = runs.6 (order m0.width) m0.width m0.fit counts law.narrow (orders m0.width) law.downward in
+      let same = runs.10 (order m0.width) m0.width m0.fit 64 h (come_to order m0 counts) enough_told in
+      subst (λ k. IsNotRefused (turn_of order m0.width m0 k (come_to order m0 counts)).said) sum (subst (λ t. IsNotRefused t.said) (sym same) enough_told)
+
+  enough_unrefused : (x : Said) → said ≡ x → Answers checks next.last x r p
+      → IsEnough (meaning o).allowance → IsNotRefused x
+  enough_unrefused (listed l) is a much = tt
+  enough_unrefused all_listed is a much = tt
+  enough_unrefused no_room is a much = tt
+  enough_unrefused (refused s) is a much =
+      let cases = refused_is s is a.0 a.2 in
+      let taken = lasts_many (length told) 64 (meaning o).allowance (meaning next.last).allowance next.lasts cases.2 in
+      subst IsNotRefused is (many_unrefused (is_enough (meaning o).allowance (length told) taken much))
+
+  -- with SPENT a check within the width is refused with the same label
+  spent_refuses : (x : Said) → said ≡ x → Answers checks next.last x r p → (label : ℕ)
+      → r ≡ Err (Spent label)
+      → (s : ℕ) × Within m0.width s × Checked (meaning p) s (Err (check.Spent label)) (meaning p)
+  spent_refuses (listed l) is a label e = let two = a.0 in absurd (cc)
+  spent_refuses all_listed is a label e = let two = a.0 in absurd (cc)
+  spent_refuses no_room is a label e = let two = a.0 in absurd (cc)
+  spent_refuses (refused s) is a label e =
+      let same : passed_on a.0 ≡ Spent label = let two = sym a.1 ∙ e in cc in
+      let again = refused_again (meaning next.last) (meaning p) s a.0 (mean next.last s (Err a.0) p a.2) in
+      (s, holds.within s is, subst (λ q. Checked (meaning p) s (Err q) (meaning p)) (spent_passed a.0 label same) again)
+
+  -- no set is outside the width
+  never_outside : (x : Said) → said ≡ x → Answers checks next.last x r p → r ≡ Err Outside → ⊥
+  never_outside (listed l) is a e = let two = a.0 in cc
+  never_outside all_listed is a e = let two = a.0 in cc
+  never_outside no_room is a e = let two = a.0 in cc
+  never_outside (refused s) is a e =
+      let same : passed_on a.0 ≡ Outside = let two = sym a.1 ∙ e in cc in
+      let outside : a.0 ≡ check.Outside = outside_passed a.0 same in
+      let spent = (refused_is s is a.0 a.2).1 in
+      cc
+
+  -- where the answer is not SPENT no check was refused
+  unspent_told : (x : Said) → said ≡ x → Answers checks next.last x r p → IsNotSpent r
+      → IsNotRefused x
+  unspent_told (listed l) is a unspent = tt
+  unspent_told all_listed is a unspent = tt
+  unspent_told no_room is a unspent = tt
+  unspent_told (refused s) is a unspent =
+      let spent = (refused_is s is a.0 a.2).1 in
+      subst IsNotSpent (a.1 ∙ ap (λ q. Err (passed_on q)) spent) unspent
+
+  -- so the checks that are then answered are at most the bound
+  pub next_bounded : IsNotSpent r → left.checks ≤ bound m0.width left.lines
+  next_bounded unspent = holds.bounded (unspent_told said refl next.said unspent)
+
+  -- what holds of an answer of NEXT
+  pub answer_is_true : (ls : List lines.Line) → ls ≡ (come_to order m0 counts).lines
+      → (found : Option ℕ) → found ≡ (meaning o).allowance
+      → IsTrueAnswer m0 ls found r (meaning p)
+  answer_is_true ls is found found_is =
+      let ended = answers_end checks next.last p said r next.said in
+      let full = answers_full checks next.last p said r next.said in
+      let whole : (l : List lines.Line) → Type 0 = IsWhole m0.width m0.fit in
+      record {
+        ended = (
+          λ e. subst whole (sym is) (holds.whole.0 (ended.0 e)),
+          λ all. ended.1 (holds.whole.1 (subst whole is all)),
+        );
+        filled = (
+          λ e. subst (λ l. (length l ≡ most_lines)
+              × (whole l → ⊥)) (sym is) (holds.filled.0 (full.0 e)),
+          λ all. full.1 (holds.filled.1 (subst (λ l. (length l ≡ most_lines)
+              × (whole l → ⊥)) is all)),
+        );
+        unspent = λ much.
+            told_unspent checks next.last p said r next.said
+            (enough_unrefused said refl next.said (subst IsEnough found_is much));
+        spent = spent_refuses said refl next.said;
+        never_outside = never_outside said refl next.said;
+      }

@@ -1,0 +1,15 @@
+-- In which order relaxations are listed. Assumes nothing.
+use Rattle.std.specs.Prelude.{ℕ, Bool}
+use Rattle.listing.specs.Orders.{IsOrder, keeps_more}
+
+-- for each width, which of two sets goes before the other
+abbrev pub Order : Type 0
+Order = (width s t : ℕ) → Bool
+
+-- at each width it is total, and a set goes before each of its proper parts
+abbrev pub AreOrders : Order → Type 0
+AreOrders order = (width : ℕ) → IsOrder width (order width)
+
+-- relaxations are listed by keep weight; all else in this crate is said over any such order
+abbrev pub preferring : Order
+preferring = keeps_more
