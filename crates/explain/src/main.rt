@@ -1,21 +1,8 @@
-// Reads a ticket from standard input and prints its report.
+// Reads a ticket and prints its report: see the crate `command_line`.
 #![tactic(auto)]
 
-use report::explain;
-use std::io::Read;
-use ticket::LONGEST;
+use std::process::ExitCode;
 
-// One byte more than a ticket may have, so that a longer input is seen to be longer.
-const LIMIT: u64 = LONGEST as u64 + 1;
-
-fn run(rt: &HostRuntime) -> anyhow::Result<()> {
-    let mut text = Vec::new(rt.alloc());
-    rt.stdin().take(LIMIT).read_to_end(&mut text)?;
-    let answer = explain(rt.alloc(), text.as_slice())?;
-    print!(rt; "{answer}")?;
-    Ok(())
-}
-
-fn main(rt: HostRuntime) -> anyhow::Result<()> {
-    run(&rt)
+fn main(rt: HostRuntime) -> anyhow::Result<ExitCode> {
+    command_line::explain(&rt)
 }

@@ -124,6 +124,7 @@ module _ {O : Type 0} (order : Order) (orders : AreOrders order) (meaning : O �
               told = told_truly x.moment.made k.joins;
               kept = k.came.kept;
               lines = sym k.came.lines;
+              counted = sym k.came.counted;
               count = ap (λ (m : Moment). m.lines) k.moment ∙ ap length (sym k.came.lines);
               listing = subst (IsListing (order m0.width) m0.width m0.fit)
                   (sym (k.came.lines ∙ ap (λ (st : State). st.lines) k.came.listing))

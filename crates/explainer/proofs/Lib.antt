@@ -7,6 +7,7 @@ pub mod Leading
 pub mod NextCode
 pub mod NextFacts
 pub mod NextFalls
+pub mod NextNumbers
 pub mod NextReads
 pub mod Preferred
 pub mod Progressing

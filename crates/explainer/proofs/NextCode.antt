@@ -1,8 +1,7 @@
 -- What the code of NEXT tells, as the steps have it; and what is done from where it stands is done from where it
 -- stood. Assumes nothing.
-use Rattle.std.proofs.Common.{◌≡◌, ℕ, ◌<◌, Bool, List, [], ◌∷◌, Option, Some, None, Ok, Err, refl, sym, ap, ◌∙◌, subst}
+use Rattle.std.proofs.Common.{◌≡◌, ℕ, ◌<◌, Bool, List, [], ◌∷◌, Option, Some, None, Ok, refl, sym, ap, ◌∙◌, subst}
 use Rattle.std.specs.Prelude.{MatchOption}
-use Rattle.std.specs.Result.{IsErrAnd}
 use Rattle.sets.specs.Sets.{bits_of, set_of}
 use Rattle.sets.specs.declared.Members.{Members}
 use Rattle.oracle.specs.Asking.{verdict}
@@ -17,7 +16,6 @@ use Rattle.explainer.specs.Nexts.{Ends, NextLeads}
 use Rattle.explainer.specs.Preferring.{Order, AreOrders}
 use Rattle.explainer.specs.declared.asking.Explainer.{Explainer}
 use Rattle.explainer.specs.declared.moments.NextAnswer.TheVariants as next
-use Rattle.explainer.specs.declared.moments.NextRefusal.{NextRefusal}
 use Rattle.explainer.specs.declared.progress.Due.TheVariants as due
 use Rattle.explainer.specs.declared.progress.Progress.{Progress}
 use Rattle.explainer.proofs.NextFalls.{left_of, falls}
@@ -46,11 +44,6 @@ due_full (check t) e = absurd (cc)
 due_full (lists y) e = absurd (cc)
 due_full all e = absurd (cc)
 due_full full e = refl
-
--- a result that is refused with this and nothing else
-pub err_is : (r : Answer) (x : NextRefusal) → IsErrAnd r (λ y. y ≡ x) → r ≡ Err x
-err_is (Ok a) x e = absurd e
-err_is (Err y) x e = ap (λ z. Err z) e
 
 -- what an answer leads to is the same where width and state are
 answered_same : (order : Order) (p q : Progress) → Same p q → (fit : Bool) → answered_by order q fit ≡ answered_by order p fit

@@ -10,6 +10,7 @@ use Rattle.oracle.specs.Calls.{Checks, ChecksMean}
 use Rattle.oracle.specs.Meaning.{Meaning, Kept}
 use Rattle.oracle.specs.declared.Verdict.{Verdict}
 use Rattle.oracle.proofs.Checks.{answered_as, kept, kept_on}
+use Rattle.oracle.proofs.Numbers.{answer_is}
 use Rattle.listing.specs.Steps.{State, Move, check, lists, all, full, move, answered}
 use Rattle.listing.specs.Turns.{listed, refused, Turn, says, turn_at, line_or, moved_or, turn, sets_at, sets_later, sets_after, sets_checked}
 use Rattle.listing.specs.declared.lines.Line as lines
@@ -108,7 +109,7 @@ module _ {O : Type 0} (order : Order) (width : ℕ) (meaning : O → Meaning) (c
           → Answers checks o (turn_at m st (λ s. says (refused s) st)).said r p
           × ((turn_at m st (λ s. says (refused s) st)).left ≡ st')
           × ((turn_at m st (λ s. says (refused s) st)).left.checks ≡ st.checks)
-      ended (check s) st o r st' p h = ((h.0, h.2, h.1), sym h.3, refl)
+      ended (check s) st o r st' p h = (h.0, sym h.1, refl)
       ended (lists x) st o r st' p h = ((h.0, h.1), sym h.2, refl)
       ended all st o r st' p h = ((h.0, h.1), sym h.2, refl)
       ended full st o r st' p h = ((h.0, h.1), sym h.2, refl)
@@ -119,7 +120,8 @@ module _ {O : Type 0} (order : Order) (width : ℕ) (meaning : O → Meaning) (c
       × Lasts 1 (meaning o).allowance (meaning q).allowance
   one_read o q s fit kept checked =
       let c : Checked (meaning o) s (Ok (verdict fit)) (meaning q) = mean o s (Ok (verdict fit)) q checked in
-      let told = answered_as (meaning o) s (verdict fit) c.0 in
+      let told =
+      answered_as (meaning o) s (verdict fit) (answer_is (meaning o) s (Ok (verdict fit)) c.0) in
       let near : Within m0.width s = subst (λ w. Within w s) kept.width told.0 in (
         (near, ap (λ (v : Verdict). v.fit) told.1 ∙ kept.fit s near),
         kept_on m0 (meaning o) (meaning q) kept c.1.0,

@@ -82,10 +82,12 @@ module _ {O : Type 0} (order : Order) (meaning : O → Meaning) (checks : Checks
         few = holds.listing.few;
         goes_on = chosen_after past x ∙ ap (λ m. after_line (next_of m)) is;
       })
-  goes_or_ends past x (Ok End) is goes holds truly = inr (comes past x (Ok End) is tt refl)
+  goes_or_ends past x (Ok End) is goes holds truly = inr (comes past x (Ok End) is (inl refl) refl)
   goes_or_ends past x (Err Outside) is goes holds truly = absurd (truly.never_outside refl)
-  goes_or_ends past x (Err Full) is goes holds truly = inr (comes past x (Err Full) is tt refl)
-  goes_or_ends past x (Err (Spent label)) is goes holds truly = inr (comes past x (Err (Spent label)) is tt refl)
+  goes_or_ends past x (Err Full) is goes holds truly =
+      inr (comes past x (Err Full) is (inr (inl refl)) refl)
+  goes_or_ends past x (Err (Spent label)) is goes holds truly =
+      inr (comes past x (Err (Spent label)) is (inr (inr (label, refl))) refl)
 
   -- so it is with any one call more
   one_more : (past : List (Stage O)) (x : Stage O) → GoesOn past ⊎ HasCome past → HoldsAt order meaning checks grants o past x × Chosen past x

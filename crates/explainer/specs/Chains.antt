@@ -1,14 +1,14 @@
 -- Which calls of an oracle lead from one to another. Assumes nothing.
-use Rattle.std.specs.Prelude.{◌≡◌, ℕ, Bool, List, [], ◌∷◌, Ok, Err}
+use Rattle.std.specs.Prelude.{◌≡◌, ◌≢◌, ℕ, Bool, List, [], ◌∷◌, None, Ok}
 use Rattle.sets.specs.Requests.{Within}
 use Rattle.sets.specs.Sets.{bits_of}
 use Rattle.oracle.specs.Asking.{verdict}
 use Rattle.oracle.specs.Calls.{Checks, Grants}
-use Rattle.oracle.specs.declared.CheckRefusal.TheVariants as check
+use Rattle.oracle.specs.Refused.{told, IsRefusedWith}
 use Rattle.explainer.specs.Moments.{Answer}
+use Rattle.explainer.specs.Refused.{next_tells, IsRefusedBy}
 use Rattle.explainer.specs.declared.moments.Made.{Made}
 use Rattle.explainer.specs.declared.moments.Made.TheVariants.{Next, Grant, Try, Tally}
-use Rattle.explainer.specs.declared.moments.NextRefusal.TheVariants.{Outside, Full, Spent}
 
 -- a set that was checked, and whether the answer was that it is fit
 abbrev pub Told : Type 0
@@ -19,14 +19,14 @@ abbrev pub Chain : {O : Type 0} → Checks O → O → List Told → O → Type 
 Chain checks o [] p = p ≡ o
 Chain {O} checks o (x ∷ xs) p = (q : O) × checks o x.0 (Ok (verdict x.1)) q × Chain checks q xs p
 
--- what follows on the answered CHECKs of a NEXT that answers this: no call; or, where a check was
--- refused, one CHECK that is refused so. With SPENT it is of a set within the width
-abbrev pub Closes : {O : Type 0} → (width : ℕ) → Checks O → Answer → O → O → Type 0
-Closes width checks (Ok a) o p = p ≡ o
-Closes width checks (Err Full) o p = p ≡ o
-Closes width checks (Err Outside) o p = (s : ℕ) × checks o s (Err check.Outside) p
-Closes width checks (Err (Spent label)) o p =
-    (s : ℕ) × Within width s × checks o s (Err (check.Spent label)) p
+-- what follows on the answered CHECKs of a NEXT that answers this: no call, where it is not refused
+-- or refused with number 12; with any other number one CHECK of a set within the width, which is
+-- refused with the same number and values
+pub record Closes {O : Type 0} (width : ℕ) (checks : Checks O) (r : Answer) (o p : O) : Type 0 where
+  pub answered : told next_tells r ≡ None → p ≡ o
+  pub full : IsRefusedWith next_tells r 12 [] → p ≡ o
+  pub refused : (number : ℕ) (values : List ℕ) → IsRefusedWith next_tells r number values
+      → number ≢ 12 → (s : ℕ) × Within width s × IsRefusedBy checks o s r p
 
 -- how a call led from one oracle to the next: NEXT by answered CHECKs, and what follows on them;
 -- GRANT by one GRANT, TRY by one CHECK, TALLY by no call

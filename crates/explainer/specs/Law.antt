@@ -1,12 +1,12 @@
 -- The law of the listing: what holds of every run of calls over every oracle, at every moment, in
 -- terms of the oracles and what they mean, of what is recorded and of the lines. Assumes nothing.
-use Rattle.std.specs.Prelude.{◌≡◌, ℕ, ◌*◌, ◌+◌, ◌≤◌, List, [], ◌∷◌, ◌++◌, length, Option, Some, None, Ok, Err, IfSome, ◌↔◌}
+use Rattle.std.specs.Prelude.{◌≡◌, ℕ, ◌*◌, ◌+◌, ◌≤◌, List, [], ◌∷◌, ◌++◌, length, Option, Some, None, Ok, IfSome, ◌↔◌}
 use Rattle.std.specs.List.{All}
 use Rattle.sets.specs.Requests.{widest, Within}
-use Rattle.oracle.specs.Asking.{Checked}
-use Rattle.oracle.specs.Calls.{Checks, Grants}
+use Rattle.oracle.specs.Asking.{AnswersCheck}
+use Rattle.oracle.specs.Calls.{CheckAnswer, Checks, Grants}
 use Rattle.oracle.specs.Meaning.{Meaning, Kept}
-use Rattle.oracle.specs.declared.CheckRefusal.TheVariants as check
+use Rattle.oracle.specs.Refused.{check_tells, IsRefusedWith}
 use Rattle.listing.specs.Bill.{depth, bound}
 use Rattle.listing.specs.Lines.{most_lines, IsWhole}
 use Rattle.listing.specs.Listings.{IsListing}
@@ -16,11 +16,11 @@ use Rattle.explainer.specs.Calls.{listing_in}
 use Rattle.explainer.specs.Chains.{Told, LedOn}
 use Rattle.explainer.specs.Moments.{Answer, next_of, last_next, IsNotSpent}
 use Rattle.explainer.specs.Preferring.{Order}
+use Rattle.explainer.specs.Refused.{next_tells}
 use Rattle.explainer.specs.Stages.{Stage, moments, oracle_after, lines_listed, checks_answered}
 use Rattle.explainer.specs.Tallies.{tally_of}
 use Rattle.explainer.specs.declared.moments.Made.TheVariants.{Tally}
 use Rattle.explainer.specs.declared.moments.NextAnswer.TheVariants.{End}
-use Rattle.explainer.specs.declared.moments.NextRefusal.TheVariants.{Outside, Full, Spent}
 
 -- so many checks are enough for any NEXT
 abbrev pub enough : ℕ
@@ -41,17 +41,20 @@ abbrev pub IsTold : Meaning → Told → Type 0
 IsTold m0 x = Within m0.width x.0 × (x.1 ≡ m0.fit x.0)
 
 -- what holds of an answer of NEXT, over the lines before it: END exactly when every minimal
--- conflict and every maximal relaxation is listed; FULL exactly when 512 lines are, but not all;
--- not SPENT where enough was found; with SPENT, what the oracle then means refuses a check within
--- the width with that label; and never OUTSIDE
+-- conflict and every maximal relaxation is listed; FULL, number 12 with no value, exactly when 512
+-- lines are, but not all; not SPENT, number 13 with a label, where enough was found; with SPENT,
+-- what the oracle then means refuses a check within the width with that number and label; and never
+-- OUTSIDE, number 10
 pub record IsTrueAnswer (m0 : Meaning) (lines : List ListedLine) (found : Option ℕ)
     (r : Answer) (n : Meaning) : Type 0 where
   pub ended : (r ≡ Ok End) ↔ IsWhole m0.width m0.fit lines
-  pub filled : (r ≡ Err Full) ↔ ((length lines ≡ most_lines) × (IsWhole m0.width m0.fit lines → ⊥))
+  pub filled : IsRefusedWith next_tells r 12 []
+      ↔ ((length lines ≡ most_lines) × (IsWhole m0.width m0.fit lines → ⊥))
   pub unspent : IsEnough found → IsNotSpent r
-  pub spent : (label : ℕ) → r ≡ Err (Spent label) → (s : ℕ) × Within m0.width s
-      × Checked n s (Err (check.Spent label)) n
-  pub never_outside : r ≡ Err Outside → ⊥
+  pub spent : (label : ℕ) → IsRefusedWith next_tells r 13 (label ∷ [])
+      → (s : ℕ) × (answer : CheckAnswer) × Within m0.width s × AnswersCheck n s answer
+      × IsRefusedWith check_tells answer 13 (label ∷ [])
+  pub never_outside : IsRefusedWith next_tells r 10 [] → ⊥
 
 -- so many checks are at most the bound, unless this answer of NEXT, if there is one, is SPENT
 abbrev pub IsBounded : Option Answer → (checks most : ℕ) → Type 0
@@ -76,8 +79,10 @@ pub record HoldsAt {O : Type 0} (order : Order) (meaning : O → Meaning) (check
   pub told : All (IsTold (meaning o)) x.told
   -- width and verdict on every set within it are as at first
   pub kept : Kept (meaning o) (meaning x.stands.oracle)
-  -- the explainer then has the lines that were answered, and so many are recorded
+  -- the explainer then has the lines that were answered, and the number of the checks that were
+  -- answered to NEXT so far; and so many lines are recorded
   pub lines : (listing_in x.stands).lines ≡ lines_listed (past ++ x ∷ [])
+  pub counted : (listing_in x.stands).checks ≡ checks_answered (past ++ x ∷ [])
   pub count : x.moment.lines ≡ length (lines_listed (past ++ x ∷ []))
   -- they are at most 512, none twice; each is a minimal conflict or a maximal relaxation; the first
   -- conflict is the preferred one; the relaxations fall in the order, and each maximal one that is

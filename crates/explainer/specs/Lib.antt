@@ -16,3 +16,4 @@ pub mod Runs
 pub mod Stages
 pub mod StepLaw
 pub mod Tallies
+pub mod Words

@@ -1,6 +1,8 @@
 -- What the record of a run tells. Assumes nothing.
-use Rattle.std.specs.Prelude.{List, [], ◌∷◌, ◌++◌, Option, Some, None, Ok, Err, Result}
+use Rattle.std.specs.Prelude.{ℕ, List, [], ◌∷◌, ◌++◌, Option, Some, None, Ok, Err, Result}
+use Rattle.oracle.specs.Refused.{IsRefusedWith}
 use Rattle.listing.specs.declared.lines.Line.{Line as ListedLine}
+use Rattle.explainer.specs.Refused.{next_tells}
 use Rattle.explainer.specs.declared.moments.Call.{Call}
 use Rattle.explainer.specs.declared.moments.Call.TheVariants as call
 use Rattle.explainer.specs.declared.moments.Made.{Made}
@@ -9,7 +11,6 @@ use Rattle.explainer.specs.declared.moments.Moment.{Moment}
 use Rattle.explainer.specs.declared.moments.NextAnswer.{NextAnswer}
 use Rattle.explainer.specs.declared.moments.NextAnswer.TheVariants.{Line, End}
 use Rattle.explainer.specs.declared.moments.NextRefusal.{NextRefusal}
-use Rattle.explainer.specs.declared.moments.NextRefusal.TheVariants.{Outside, Full, Spent}
 
 -- what NEXT answers
 abbrev pub Answer : Type 0
@@ -51,12 +52,9 @@ abbrev pub last_next : (before : Option Answer) → List Moment → Option Answe
 last_next before [] = before
 last_next before (x ∷ xs) = last_next (later_or before (next_of x.made)) xs
 
--- NEXT had an answer that is not SPENT
+-- NEXT had an answer that is not SPENT: it is not refused with number 13 and a label
 abbrev pub IsNotSpent : Answer → Type 0
-IsNotSpent (Ok a) = Unit {0}
-IsNotSpent (Err Outside) = Unit {0}
-IsNotSpent (Err Full) = Unit {0}
-IsNotSpent (Err (Spent label)) = ⊥
+IsNotSpent r = (label : ℕ) → IsRefusedWith next_tells r 13 (label ∷ []) → ⊥
 
 -- the call that was made last, if one was
 abbrev pub last_made : List Moment → Option Made

@@ -1,29 +1,27 @@
 -- What a NEXT comes to by itself, wherever the explainer stands: what the steps say and leave, over
 -- the verdict that its oracle then means. Assumes nothing.
-use Rattle.std.specs.Prelude.{◌≡◌, List, length, map, Ok, Err}
+use Rattle.std.specs.Prelude.{◌≡◌, List, [], length, map, Ok}
 use Rattle.std.specs.List.{All}
 use Rattle.oracle.specs.Calls.{Checks}
 use Rattle.oracle.specs.Meaning.{Meaning}
-use Rattle.oracle.specs.declared.CheckRefusal.{CheckRefusal}
+use Rattle.oracle.specs.Refused.{IsRefusedWith}
 use Rattle.listing.specs.Turns.{Said, listed, all_listed, no_room, refused, turn, sets_checked}
 use Rattle.explainer.specs.Calls.{width_of, listing_in, NextDone}
 use Rattle.explainer.specs.Chains.{Told, Chain}
 use Rattle.explainer.specs.Law.{IsTold}
 use Rattle.explainer.specs.Moments.{Answer}
 use Rattle.explainer.specs.Preferring.{Order}
-use Rattle.explainer.specs.Refused.{passed_on}
+use Rattle.explainer.specs.Refused.{next_tells, IsRefusedBy}
 use Rattle.explainer.specs.declared.asking.Explainer.{Explainer}
 use Rattle.explainer.specs.declared.moments.NextAnswer.TheVariants.{Line, End}
-use Rattle.explainer.specs.declared.moments.NextRefusal.TheVariants.{Full}
 
 -- what is answered where the steps say this, and how the oracle after the answered checks led to the
 -- one that is left: by no call, or by one CHECK that is refused
 abbrev pub Answers : {O : Type 0} → Checks O → (last : O) → Said → Answer → O → Type 0
 Answers checks last (listed x) r p = (r ≡ Ok (Line x)) × (p ≡ last)
 Answers checks last all_listed r p = (r ≡ Ok End) × (p ≡ last)
-Answers checks last no_room r p = (r ≡ Err Full) × (p ≡ last)
-Answers checks last (refused s) r p =
-    (e : CheckRefusal) × (r ≡ Err (passed_on e)) × checks last s (Err e) p
+Answers checks last no_room r p = IsRefusedWith next_tells r 12 [] × (p ≡ last)
+Answers checks last (refused s) r p = IsRefusedBy checks last s r p
 
 -- a NEXT had checks of some sets answered: they are those that the steps check with as many checks,
 -- and the answers are the verdict; it answers what the steps say, and leaves what they leave

@@ -1,23 +1,22 @@
 -- NEXT: which calls it makes of its oracle, and what it answers. Assumes nothing.
-use Rattle.std.specs.Prelude.{◌≡◌, ℕ, Bool, List, [], ◌∷◌, Ok, Err, MatchOption}
+use Rattle.std.specs.Prelude.{◌≡◌, ℕ, Bool, List, [], ◌∷◌, Ok, MatchOption}
 use Rattle.oracle.specs.Asking.{verdict}
 use Rattle.oracle.specs.Calls.{Checks}
-use Rattle.oracle.specs.declared.CheckRefusal.{CheckRefusal}
+use Rattle.oracle.specs.Refused.{IsRefusedWith}
 use Rattle.listing.specs.Steps.{State, Move, check, lists, all, full, move, with_line, answered}
 use Rattle.explainer.specs.Moments.{Answer}
 use Rattle.explainer.specs.Preferring.{Order}
-use Rattle.explainer.specs.Refused.{passed_on}
+use Rattle.explainer.specs.Refused.{next_tells, IsRefusedBy}
 use Rattle.explainer.specs.declared.moments.NextAnswer.TheVariants.{Line, End}
-use Rattle.explainer.specs.declared.moments.NextRefusal.TheVariants.{Full}
 
 -- where no further check is answered: what the steps are to do is answered and no call is made, or
--- the set that is due is checked once, and its refusal is passed on
+-- the set that is due is checked once, and its refusal is passed on; where there is no room it is
+-- refused with number 12 and no value
 abbrev pub Ends : {O : Type 0} → Checks O → Move → State → O → Answer → State → O → Type 0
-Ends checks (check s) st o r st' p =
-    (e : CheckRefusal) × checks o s (Err e) p × (r ≡ Err (passed_on e)) × (st' ≡ st)
+Ends checks (check s) st o r st' p = IsRefusedBy checks o s r p × (st' ≡ st)
 Ends checks (lists x) st o r st' p = (r ≡ Ok (Line x)) × (p ≡ o) × (st' ≡ with_line st x)
 Ends checks all st o r st' p = (r ≡ Ok End) × (p ≡ o) × (st' ≡ st)
-Ends checks full st o r st' p = (r ≡ Err Full) × (p ≡ o) × (st' ≡ st)
+Ends checks full st o r st' p = IsRefusedWith next_tells r 12 [] × (p ≡ o) × (st' ≡ st)
 
 -- NEXT from a state and an oracle, where these answers were told to it: each by one CHECK of the
 -- set that the steps are to check, until one of them lists a line

@@ -10,6 +10,7 @@ Order = (width s t : ℕ) → Bool
 abbrev pub AreOrders : Order → Type 0
 AreOrders order = (width : ℕ) → IsOrder width (order width)
 
--- relaxations are listed by keep weight; all else in this crate is said over any such order
+-- relaxations are listed by keep weight; the other definitions of this crate take any order, and the
+-- lemmas any that is one
 abbrev pub preferring : Order
 preferring = keeps_more

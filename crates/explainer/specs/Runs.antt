@@ -1,8 +1,9 @@
 -- All that holds of a run. Assumes nothing.
-use Rattle.std.specs.Prelude.{◌≡◌, ℕ, ◌<◌, List, Option, Some, None, Ok, Err, IsSomeAnd, ◌↔◌}
+use Rattle.std.specs.Prelude.{◌≡◌, ℕ, ◌<◌, ◌⊎◌, List, [], ◌∷◌, Option, Some, None, Ok, IsSomeAnd, ◌↔◌}
 use Rattle.std.specs.List.{Any, Contains}
 use Rattle.oracle.specs.Calls.{Checks, Grants}
 use Rattle.oracle.specs.Meaning.{Meaning}
+use Rattle.oracle.specs.Refused.{IsRefusedWith}
 use Rattle.listing.specs.Lines.{most_lines, conflict, relaxation}
 use Rattle.listing.specs.Words.{IsMinimal, IsMaximal}
 use Rattle.listing.specs.declared.lines.Line.{Line as ListedLine}
@@ -12,13 +13,13 @@ use Rattle.explainer.specs.Law.{LawOfRun}
 use Rattle.explainer.specs.Led.{IsLed, IsPath}
 use Rattle.explainer.specs.Moments.{Answer, next_of, lines_answered, last_made}
 use Rattle.explainer.specs.Preferring.{Order}
+use Rattle.explainer.specs.Refused.{next_tells}
 use Rattle.explainer.specs.Stages.{Stage, moments, oracle_after, checks_answered}
 use Rattle.explainer.specs.StepLaw.{StepsOfRun}
 use Rattle.explainer.specs.declared.asking.Explainer.{Explainer}
 use Rattle.explainer.specs.declared.moments.Call.{Call}
 use Rattle.explainer.specs.declared.moments.Moment.{Moment}
-use Rattle.explainer.specs.declared.moments.NextAnswer.TheVariants.{Line, End}
-use Rattle.explainer.specs.declared.moments.NextRefusal.TheVariants.{Outside, Full, Spent}
+use Rattle.explainer.specs.declared.moments.NextAnswer.TheVariants.{End}
 
 -- some NEXT answered END
 abbrev pub HasEnded : List Moment → Type 0
@@ -52,13 +53,12 @@ pub record HasLaw {O : Type 0} (order : Order) (meaning : O → Meaning) (checks
   pub oracle : b.oracle ≡ oracle_after o stages
 
 -- a run of so many calls at most, each chosen by a caller: the calls made are the ones chosen, all
--- of them and in order; they led to where the explainer stands; and the law holds
+-- of them and in order; and they led to where the explainer stands, as the law says
 pub record IsRun {O : Type 0} (order : Order) (meaning : O → Meaning) (checks : Checks O)
     (grants : Grants O) (choice : List Moment → Option Call) (turns : ℕ) (o : O)
     (past : List Moment) (b : Explainer O) : Type 0 where
   pub chosen : AreChosen choice past
   pub stopped : HasStopped choice turns past
-  pub led : IsLed order meaning checks grants o past b
   pub law : HasLaw order meaning checks grants o past b
 
 -- the law holds of whatever calls lead to where an explainer stands, whoever makes them
@@ -67,14 +67,12 @@ LawOfCalls {O} order meaning checks grants =
     (o : O) (past : List Moment) (b : Explainer O) → IsLed order meaning checks grants o past b
     → HasLaw order meaning checks grants o past b
 
--- a NEXT answered END, FULL or SPENT
+-- a NEXT answered END, or FULL, number 12 with no value, or SPENT, number 13 with a label
 abbrev pub EndsListing : Option Answer → Type 0
 EndsListing None = ⊥
-EndsListing (Some (Ok (Line x))) = ⊥
-EndsListing (Some (Ok End)) = Unit {0}
-EndsListing (Some (Err Outside)) = ⊥
-EndsListing (Some (Err Full)) = Unit {0}
-EndsListing (Some (Err (Spent label))) = Unit {0}
+EndsListing (Some r) =
+    (r ≡ Ok End) ⊎ (IsRefusedWith next_tells r 12 []
+    ⊎ ((label : ℕ) × IsRefusedWith next_tells r 13 (label ∷ [])))
 
 -- with more turns than there is room for lines, NEXT until it answers no line ends with such a
 -- NEXT: 513 turns are enough

@@ -27,8 +27,8 @@ pub fn law_of_calls_holds<O: Oracle>()
     ensures enough { EnoughIs }
 {}
 
-/// What a NEXT comes to by itself, from wherever an explainer stands, as a theorem over every oracle:
-/// see specs/NextLaw.antt.
+/// What a NEXT comes to by itself, from wherever an explainer stands, as a theorem over every
+/// oracle: see specs/NextLaw.antt.
 pub fn next_law_holds<O: Oracle>()
     ensures { NextLaw preferring O.meaning O.check_leads }
 {}

@@ -1,10 +1,14 @@
 // The calls, what they answer, and what is recorded of each.
-ghost use Rattle.std.specs.Prelude.{◌≡◌};
-ghost use Rattle.explainer.specs.Refused.{next_number, next_value, passed_on};
+ghost use Rattle.std.specs.Prelude.{◌≡◌, Some};
+ghost use Rattle.oracle.specs.Refused.{check_tells, at_most_one};
+ghost use Rattle.explainer.specs.Refused.{next_tells};
+ghost use Rattle.explainer.specs.Words.{next_words};
 
 use listing::Line;
 use oracle::{CheckRefusal, GrantRefusal, Verdict};
 use sets::Set;
+use std::error::Error;
+use std::fmt;
 
 /// What a NEXT answers that is not refused.
 #[derive(Clone, Copy, PartialEq, Eq, Debug)]
@@ -29,7 +33,7 @@ pub enum NextRefusal {
 impl NextRefusal {
     /// A case that holds a value can have no discriminant, so the numbers stand here.
     pub fn number(self) -> u32
-        ensures { result ≡ next_number self }
+        ensures { result ≡ (next_tells self).0 }
     {
         match self {
             NextRefusal::Outside => 10,
@@ -40,7 +44,7 @@ impl NextRefusal {
 
     /// The label that is told, if any.
     pub fn value(self) -> Option<u8>
-        ensures { result ≡ next_value self }
+        ensures { at_most_one result ≡ (next_tells self).1 }
     {
         match self {
             NextRefusal::Outside => None,
@@ -50,9 +54,9 @@ impl NextRefusal {
     }
 }
 
-// A NEXT passes on what an oracle refuses.
+// A NEXT passes on what an oracle refuses, with its number and values.
 impl From<CheckRefusal> for NextRefusal {
-    ghost from_gives = { λ e r. r ≡ passed_on e };
+    ghost from_gives = { λ e r. next_tells r ≡ check_tells e };
 
     fn from(refusal: CheckRefusal) -> NextRefusal {
         match refusal {
@@ -61,6 +65,21 @@ impl From<CheckRefusal> for NextRefusal {
         }
     }
 }
+
+// In words, why a NEXT is refused: what a check was refused with has the words that it has there.
+impl fmt::Display for NextRefusal {
+    ghost output = { λ e. Some (next_words e) };
+
+    fn fmt<W: fmt::Write>(&self, f: &mut fmt::Formatter<W>) -> fmt::Result {
+        match *self {
+            NextRefusal::Outside => write!(f, "{}", CheckRefusal::Outside),
+            NextRefusal::Full => write!(f, "there is no room for a further line (FULL)"),
+            NextRefusal::Spent { label } => write!(f, "{}", CheckRefusal::Spent { label }),
+        }
+    }
+}
+
+impl Error for NextRefusal {}
 
 /// How many conflicts are listed, how many relaxations, the sizes of the listed conflicts added up,
 /// how many checks were answered to NEXT, and the bound on them.

@@ -1,14 +1,13 @@
 // Faces told by sums of free faces, with what each rule says put in.
 // A sum is one number, taken modulo 2: place 0 says whether 1 is added, and place p + 1 whether face p is.
-ghost use Rattle.std.specs.Prelude.{◌≡◌, ◌<◌, [], map};
-ghost use Rattle.rules.specs.Force.{in_force, and_then};
-ghost use Rattle.rules.specs.Substitution.{faces as face_count, bit_of, free, total, put_in, made_zero, constants, width_of};
+ghost use Rattle.std.specs.Prelude.{◌≡◌, ◌<◌, Some, map};
+ghost use Rattle.rules.specs.Substitution.{faces as face_count, bit_of, free, total, put_in, entered, constants, more_faces};
 ghost use Rattle.sets.specs.Masks.{number_of};
 ghost use Rattle.sets.specs.Sets.{bits_of};
-ghost use Rattle.faces.specs.Steps.{sums_after, entered_if};
+ghost use Rattle.faces.specs.Steps.{sums_after};
 ghost use Rattle.faces.specs.Verdict.{Found};
 
-use rules::{Body, FaceSet, LAST_FACE, Rule};
+use rules::{Body, FaceSet, Kind, LAST_FACE, Rule};
 use sets::{Mask, Set};
 
 // How many faces there are.
@@ -68,29 +67,21 @@ impl Sums {
         }
     }
 
-    // One more rule; none where no choice is left.
-    fn enter(&mut self, odd: bool, faces: Mask) -> Option<()>
-        ensures { sums_after result self.new ≡ made_zero self.old.of (total self.old.of (number_of faces) (bit_of odd)) }
+    // One more rule of faces, which says this; none where no choice is left. What is of another
+    // letter changes nothing.
+    fn enter(&mut self, body: Body) -> Option<()>
+        ensures sums { sums_after result self.new ≡ entered (Some self.old.of) body }
+        ensures narrow { more_faces body ≡ 0 }
     {
-        let sum = self.total(odd, faces);
+        let Body::Faces { odd, faces } = body else {
+            return Some(());
+        };
+        let sum = self.total(odd, faces.members);
         if sum < 2 {
             return (sum == 0).then_some(());
         }
         self.put_in_all((sum / 2).trailing_zeros() + 1, sum);
         Some(())
-    }
-
-    // What a rule says, if it says anything of faces. Whether it is in force is looked at only then.
-    fn enter_by(&mut self, rule: &Rule, set: Set) -> Option<()>
-        ensures sums { sums_after result self.new ≡ entered_if self.old.of (in_force (bits_of set) rule.now) }
-        ensures narrow { width_of (and_then (in_force (bits_of set) rule.now) []) ≡ face_count }
-    {
-        match rule.body {
-            Some(Body::Faces { odd, faces }) if rule.in_force(set).is_some() => {
-                self.enter(odd, faces.members)
-            }
-            _ => Some(()),
-        }
     }
 
     // The faces at the back where no free face is.
@@ -111,7 +102,13 @@ pub fn back(rules: &[Rule], set: Set) -> Option<FaceSet>
 {
     let mut sums = Sums::new();
     for rule in rules {
-        sums.enter_by(rule, set)?;
+        if !rule.is_of(Kind::Faces) {
+            continue;
+        }
+        let Some(body) = rule.in_force(set) else {
+            continue;
+        };
+        sums.enter(body)?;
     }
     Some(FaceSet {
         members: Mask::new(sums.constants()),

@@ -1,10 +1,15 @@
 pub mod Commas
 pub mod Cutting
+pub mod FirstFlaw
+pub mod FormFlaws
 pub mod Forming
+pub mod OrderFlaws
 pub mod Outcomes
 pub mod Placed
+pub mod RangeFlaws
 pub mod Spelling
 pub mod Splits
+pub mod Standing
 pub mod Turns
 pub mod Valued
 pub mod WellWritten

@@ -1,5 +1,5 @@
 -- What it takes for a step of the reader to give a value. Assumes nothing.
-use Rattle.std.proofs.Common.{◌≡◌, ℕ, Bool, true, false, cond, Some, None, Ok, Err, Option, Result, refl, arith}
+use Rattle.std.proofs.Common.{◌≡◌, ℕ, Bool, true, false, cond, Some, None, Ok, Err, Option, Result, ◌⊎◌, inl, inr, sym, refl, ap, arith}
 use Rattle.std.specs.Result.{result_map_both}
 use Rattle.fields.specs.Steps.{◌>>=◌, or_fault}
 use Rattle.fields.specs.declared.fault.LineFault.{LineFault}
@@ -38,3 +38,21 @@ same_some x y p = cc
 
 pub same_ok : {A E : Type 0} (x y : A) → ◌≡◌ {A = Result A E} (Ok x) (Ok y) → x ≡ y
 same_ok x y p = cc
+
+pub same_err : {A E : Type 0} (x y : E) → ◌≡◌ {A = Result A E} (Err x) (Err y) → x ≡ y
+same_err x y p = cc
+
+pub then_err : {A B E : Type 0} (r : Result A E) (next : A → Result B E) (e : E)
+    → (r >>= next) ≡ Err e → (r ≡ Err e) ⊎ ((x : A) × (r ≡ Ok x) × (next x ≡ Err e))
+then_err (Ok x) next e p = inr (x, refl, p)
+then_err (Err d) next e p = let same : d ≡ e = same_err d e p in inl (ap Err same)
+
+pub mapped_err : {A E D : Type 0} (g : E → D) (r : Result A E) (e : D)
+    → result_map_both (λ y. y) g r ≡ Err e → (d : E) × (r ≡ Err d) × (e ≡ g d)
+mapped_err g (Ok y) e p = absurd (err_no_ok e y (sym p))
+mapped_err g (Err d) e p = (d, refl, sym (same_err (g d) e p))
+
+pub cond_err : {A E : Type 0} (b : Bool) (r : Result A E) (c e : E)
+    → cond b r (Err c) ≡ Err e → ((b ≡ false) × (e ≡ c)) ⊎ ((b ≡ true) × (r ≡ Err e))
+cond_err true r c e p = inr (refl, p)
+cond_err false r c e p = inl (refl, sym (same_err c e p))

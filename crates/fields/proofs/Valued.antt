@@ -27,11 +27,11 @@ pub record Valued (s : Sort) (requests : ℕ) (vs : List Value) : Type 0 where
   pub placed : Placed s requests 1 vs
   pub order : ends_in_set s ≡ true → first_unrisen None 3 (drop 2 vs) ≡ None
 
-without_ok : (w : Flaw) (line : ℕ) (o : Option ℕ) (u : Unit {0}) → without w line o ≡ Ok u → o ≡ None
+pub without_ok : (w : Flaw) (line : ℕ) (o : Option ℕ) (u : Unit {0}) → without w line o ≡ Ok u → o ≡ None
 without_ok w line None u p = refl
 without_ok w line (Some i) u p = absurd (err_no_ok (at_field w line i) u p)
 
-ordered_ok : (b : Bool) (line : ℕ) (o : Option ℕ) (u : Unit {0}) → cond b (without Order line o) (Ok tt) ≡ Ok u → b ≡ true → o ≡ None
+pub ordered_ok : (b : Bool) (line : ℕ) (o : Option ℕ) (u : Unit {0}) → cond b (without Order line o) (Ok tt) ≡ Ok u → b ≡ true → o ≡ None
 ordered_ok true line o u p is = without_ok Order line o u p
 ordered_ok false line o u p is = absurd (false≢true is)
 
@@ -40,7 +40,7 @@ ordered_when true line o rises = ap (without Order line) (rises refl)
 ordered_when false line o rises = refl
 
 -- RANGE and ORDER, after FORM
-abbrev checked : Sort → (requests line : ℕ) → List Value → Result (List Value) FieldFault
+abbrev pub checked : Sort → (requests line : ℕ) → List Value → Result (List Value) FieldFault
 checked s requests line vs = ranged s requests line vs >>= λ _. ordered s line vs >>= λ _. Ok vs
 
 -- `values_of` from the fields on

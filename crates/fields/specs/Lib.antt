@@ -1,7 +1,10 @@
 pub mod Cuts
 pub mod Faults
+pub mod FirstOf
+pub mod Flaws
 pub mod Formed
 pub mod Layout
 pub mod Limits
 pub mod Numbers
 pub mod Steps
+pub mod Words

@@ -1,7 +1,11 @@
 // Why a line is refused. A field's fault goes whole into its line's.
-ghost use Rattle.std.specs.Prelude.{◌≡◌};
+ghost use Rattle.std.specs.Prelude.{◌≡◌, Some};
 ghost use Rattle.fields.specs.Faults.{told_field, told_line};
+ghost use Rattle.fields.specs.Words.{flaw_words, field_words, line_words};
 ghost use Rattle.fields.specs.declared.fault.LineFault.TheVariants.{Field};
+
+use std::error::Error;
+use std::fmt;
 
 #[derive(Clone, Copy, PartialEq, Eq, Debug)]
 pub enum Flaw {
@@ -58,3 +62,65 @@ impl LineFault {
         }
     }
 }
+
+// In words, what is wrong with a field.
+impl fmt::Display for Flaw {
+    ghost output = { λ w. Some (flaw_words w) };
+
+    fn fmt<W: fmt::Write>(&self, f: &mut fmt::Formatter<W>) -> fmt::Result {
+        match *self {
+            Flaw::Form => write!(f, "the field is not written as it must be (FORM)"),
+            Flaw::Range => write!(f, "the number is outside its range (RANGE)"),
+            Flaw::Order => write!(
+                f,
+                "an option or face must be above the one before it (ORDER)"
+            ),
+            Flaw::Table => write!(f, "there are more rules than the list has room for (TABLE)"),
+        }
+    }
+}
+
+// The place, and what is wrong there.
+impl fmt::Display for FieldFault {
+    ghost output = { λ e. Some (field_words e) };
+
+    fn fmt<W: fmt::Write>(&self, f: &mut fmt::Formatter<W>) -> fmt::Result {
+        let line = self.line;
+        let field = self.field;
+        let flaw = self.flaw;
+        write!(f, "line {line}, field {field}: {flaw}")
+    }
+}
+
+// The same of a line.
+impl fmt::Display for LineFault {
+    ghost output = { λ e. Some (line_words e) };
+
+    fn fmt<W: fmt::Write>(&self, f: &mut fmt::Formatter<W>) -> fmt::Result {
+        match *self {
+            LineFault::Cut(line) => {
+                write!(
+                    f,
+                    "line {line}: the ticket ends before this line does (CUT)"
+                )
+            }
+            LineFault::Key(line) => {
+                write!(
+                    f,
+                    "line {line}: it does not begin with the key that is due and `=` (KEY)"
+                )
+            }
+            LineFault::Count(line) => {
+                write!(
+                    f,
+                    "line {line}: it has more or fewer fields than it may have (COUNT)"
+                )
+            }
+            LineFault::Field(fault) => write!(f, "{fault}"),
+        }
+    }
+}
+
+impl Error for FieldFault {}
+
+impl Error for LineFault {}

@@ -1,8 +1,9 @@
 // The fields of a line: how many they are, what they say, and the first that is at fault.
-ghost use Rattle.std.specs.Prelude.{◌≡◌, ◌≤◌, length};
+ghost use Rattle.std.specs.Prelude.{◌≡◌, ◌≤◌, length, IfOk, IfErr};
 ghost use Rattle.std.specs.Result.{result_map_both};
 ghost use Rattle.fields.specs.Cuts.{fields as fields_of};
 ghost use Rattle.fields.specs.Faults.{at_field};
+ghost use Rattle.fields.specs.Flaws.{TellsFirst, IsFaultless};
 ghost use Rattle.fields.specs.Formed.{formed as forms, ranged as ranges, ordered as orders, values_of};
 ghost use Rattle.fields.specs.Layout.{most};
 
@@ -89,9 +90,13 @@ impl Form {
         Ok(())
     }
 
-    // COUNT, FORM, RANGE and ORDER; gives what the fields say.
+    /// COUNT, FORM, RANGE and ORDER; gives what the fields say. The fault that it tells is the
+    /// first that the value has; what it takes has none.
     pub fn checked(self, value: &[u8]) -> Result<ArrayVec<Value, MOST>, LineFault>
-        ensures { result_map_both (λ v. v.items) (λ e. e) result ≡ values_of self.sort self.requests self.line value.now }
+        ensures value { result_map_both (λ v. v.items) (λ e. e) result
+            ≡ values_of self.sort self.requests self.line value.now }
+        ensures first { IfErr result (TellsFirst self.sort self.requests self.line value.now) }
+        ensures none { IfOk result (λ v. IsFaultless self.sort self.requests value.now v.items) }
     {
         if !(self.sort.fewest()..=self.sort.most()).contains(&count(value)) {
             return Err(LineFault::Count(self.line));

@@ -1,16 +1,13 @@
 -- What a call of a layer asks of the oracles below it in terms of what they mean, and what it
 -- leaves of the layer. Assumes nothing.
-use Rattle.std.specs.Prelude.{◌≡◌, ℕ, zero, suc, ◌+◌, ◌-◌, min, Bool, true, false, cond, not, ◌&&◌, List, [], ◌∷◌, ◌++◌, length, Some, None, Ok, Err, Option, nat_le, nat_lt}
+use Rattle.std.specs.Prelude.{◌≡◌, ℕ, zero, suc, ◌+◌, ◌-◌, min, Bool, false, cond, not, ◌&&◌, List, [], ◌∷◌, ◌++◌, length, Some, None, Ok, Err, Option, nat_le, nat_lt}
 use Rattle.sets.specs.Requests.{within}
-use Rattle.oracle.specs.Asking.{nought, verdict, check_answer, Checked}
+use Rattle.oracle.specs.Asking.{nought, verdict, Checked}
+use Rattle.oracle.specs.Branching.{If}
 use Rattle.oracle.specs.Calls.{CheckAnswer}
 use Rattle.oracle.specs.Meaning.{Meaning, limit}
-use Rattle.oracle.specs.declared.CheckRefusal.TheVariants.{Outside, Spent}
+use Rattle.oracle.specs.Refused.{check_tells, IsRefusedWith}
 use Rattle.layers.specs.Layered.{known}
-
--- one statement where a test holds, and another where it does not
-abbrev pub If : Bool → Type 0 → Type 0 → Type 0
-If b A B = (b ≡ true → A) × (b ≡ false → B)
 
 -- whether an answer is that the set is fit
 abbrev pub says_fit : CheckAnswer → Bool
@@ -20,9 +17,8 @@ says_fit (Err e) = false
 -- Both: the left is asked, and then the right if the left said fit
 abbrev pub InTurn : (l r : Meaning) → ℕ → CheckAnswer → (l' r' : Meaning) → Type 0
 InTurn l r s answer l' r' =
-    If (says_fit (check_answer l s))
-    (Checked l s (check_answer l s) l' × Checked r s answer r')
-    (Checked l s answer l' × (r' ≡ r))
+    (first : CheckAnswer) × Checked l s first l'
+    × If (says_fit first) (Checked r s answer r') ((answer ≡ first) × (r' ≡ r))
 
 -- Both: whether the right has nought and the left has not
 abbrev pub only_right_spent : (l r : Meaning) → Bool
@@ -38,7 +34,7 @@ abbrev pub BothChecked : (l r : Meaning) → ℕ → CheckAnswer → (l' r' : Me
 BothChecked l r s answer l' r' =
     If (within (min l.width r.width) s)
     (BothAsked l r s answer l' r')
-    ((answer ≡ Err Outside) × (l' ≡ l) × (r' ≡ r))
+    (IsRefusedWith check_tells answer 10 [] × (l' ≡ l) × (r' ≡ r))
 
 -- Quota: one less after an answer
 abbrev pub one_less : CheckAnswer → ℕ → ℕ
@@ -48,7 +44,7 @@ one_less (Err e) number = number
 -- Quota: at nought it refuses with its own label; otherwise it asks below
 abbrev pub QuotaAsked : (number label : ℕ) → Meaning → ℕ → CheckAnswer → (number' : ℕ) → Meaning → Type 0
 QuotaAsked zero label m s answer number' m' =
-    (answer ≡ Err (Spent label)) × (number' ≡ zero) × (m' ≡ m)
+    IsRefusedWith check_tells answer 13 (label ∷ []) × (number' ≡ zero) × (m' ≡ m)
 QuotaAsked (suc n) label m s answer number' m' =
     Checked m s answer m' × (number' ≡ one_less answer (suc n))
 
@@ -58,7 +54,7 @@ abbrev pub QuotaChecked : (number label : ℕ) → Meaning → ℕ → CheckAnsw
 QuotaChecked number label m s answer number' m' =
     If (within m.width s)
     (QuotaAsked number label m s answer number' m')
-    ((answer ≡ Err Outside) × (number' ≡ number) × (m' ≡ m))
+    (IsRefusedWith check_tells answer 10 [] × (number' ≡ number) × (m' ≡ m))
 
 -- Quota: its number after a grant, cut at the limit; a grant that is refused leaves it
 abbrev pub number_granted : (k number : ℕ) → ℕ
@@ -102,4 +98,4 @@ abbrev pub CoverChecked : (fits unfits : List ℕ) → Meaning → ℕ → Check
 CoverChecked fits unfits m s answer fits' unfits' m' =
     If (within m.width s)
     (CoverAsked (deciding fits unfits m s) fits unfits m s answer fits' unfits' m')
-    ((answer ≡ Err Outside) × (fits' ≡ fits) × (unfits' ≡ unfits) × (m' ≡ m))
+    (IsRefusedWith check_tells answer 10 [] × (fits' ≡ fits) × (unfits' ≡ unfits) × (m' ≡ m))

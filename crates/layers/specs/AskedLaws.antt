@@ -1,10 +1,10 @@
 -- What the calls of the layers come to in terms of what is meant below, and what Quota takes.
 -- Assumes nothing.
-use Rattle.std.specs.Prelude.{◌≡◌, ℕ, ◌+◌, Ok, Err, None}
+use Rattle.std.specs.Prelude.{◌≡◌, ℕ, ◌+◌, [], ◌∷◌, Ok, Err, None}
 use Rattle.oracle.specs.Asking.{Granted}
 use Rattle.oracle.specs.Calls.{CheckAnswer, GrantAnswer, Checks, Grants}
 use Rattle.oracle.specs.Meaning.{Meaning}
-use Rattle.oracle.specs.declared.CheckRefusal.TheVariants.{Outside, Spent}
+use Rattle.oracle.specs.Refused.{check_tells}
 use Rattle.layers.specs.Asked.{BothChecked, QuotaChecked, CoverChecked, number_granted}
 use Rattle.layers.specs.Calls.{BothChecks, BothGrants, QuotaChecks, QuotaGrants, CoverChecks, CoverGrants}
 use Rattle.layers.specs.Listed.{kept_list}
@@ -12,7 +12,8 @@ use Rattle.layers.specs.declared.both.Both.{Both}
 use Rattle.layers.specs.declared.cover.Cover.{Cover}
 use Rattle.layers.specs.declared.quota.Quota.{Quota}
 
--- what a CHECK of Both asks of its sides; a GRANT of it is one of each side, with one answer
+-- what a CHECK of Both asks of its sides; a GRANT of it comes to one of each side in what they mean,
+-- with one answer: where the left refuses, so would the right
 abbrev pub BothAsksSides : {L R : Type 0} → (L → Meaning) → (R → Meaning) → Checks L → Checks R
     → Grants L → Grants R → Type 0
 BothAsksSides {L} {R} left right lefts rights gives_left gives_right =
@@ -41,12 +42,12 @@ CoverAsksBelow {O} meaning checks grants =
     → Granted (meaning o.below) k r (meaning p.below)
     × (kept_list p.fits ≡ kept_list o.fits) × (kept_list p.unfits ≡ kept_list o.unfits))
 
--- what a CHECK takes of a quota: one for an answer, nothing for a refusal; SPENT tells the quota's
--- own label, with its number at nought
+-- what a CHECK takes of a quota: one for an answer, nothing for a refusal; one with number 13 tells
+-- the quota's own label, with its number at nought
 abbrev pub Took : {O : Type 0} → CheckAnswer → Quota O → Quota O → Type 0
 Took (Ok v) o p = (o.number ≡ p.number + 1) × (p.label ≡ o.label)
-Took (Err Outside) o p = p ≡ o
-Took (Err (Spent l)) o p = (p ≡ o) × (l ≡ o.label) × (o.number ≡ 0)
+Took (Err e) o p =
+    (p ≡ o) × ((l : ℕ) → check_tells e ≡ (13, l ∷ []) → (l ≡ o.label) × (o.number ≡ 0))
 
 -- over an oracle whose checks are endless, every CHECK of a quota takes that much, and they stay
 -- endless

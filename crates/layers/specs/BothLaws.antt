@@ -4,11 +4,12 @@ use Rattle.std.specs.Prelude.{◌≡◌, ℕ, ◌^◌, min, true, false, cond, n
 use Rattle.std.proofs.Common.{inl, inr, sym, ap, subst, ◌∙◌}
 use Rattle.std.proofs.lemmas.Bool.{cases_Bool, cond-true, cond-false, and_parts, ltb-true, lt-ltb, not-true}
 use Rattle.sets.specs.Requests.{within}
-use Rattle.oracle.specs.Asking.{nought, verdict, check_answer, Taken, Checked, grown, Grown, Granted, Leaves}
+use Rattle.oracle.specs.Asking.{nought, verdict, Taken, Checked, grown, Grown, Granted, Leaves}
 use Rattle.oracle.specs.Calls.{CheckAnswer, GrantAnswer, Checks, Grants, ChecksMean, GrantsMean}
 use Rattle.oracle.specs.Meaning.{Meaning, Kept, Unchanged}
 use Rattle.oracle.specs.declared.CheckRefusal.TheVariants.{Outside, Spent}
 use Rattle.oracle.proofs.Checks.{spent, answered, answer_outside, answer_spent, answer_fit, checked_as, left_as, unchanged, kept}
+use Rattle.oracle.proofs.Numbers.{check_answer, outside_is, one_grant}
 use Rattle.layers.specs.Asked.{says_fit, InTurn, BothAsked, BothChecked}
 use Rattle.layers.specs.Calls.{AsksInTurn, BothChecks, ThenGrants, BothGrants}
 use Rattle.layers.specs.Layered.{lesser, both}
@@ -118,29 +119,26 @@ module _ (l r l' r' : Meaning) (s : ℕ) (answer : CheckAnswer) where
       let near-l = (near_both l r s near).0 in
       elim (cases_Bool (nought l.allowance)) [
         | inl none ↦
-            let due = answer_spent l s near-l none in
-            let last = turn.1 (ap says_fit due) in
-            let told = left_as l l' s answer (spent l) last.0 due in
-            both_spent_left near none told.0 told.1 last.1
+            let told = left_as l l' s turn.0 (spent l) turn.1 (answer_spent l s near-l none) in
+            let last = turn.2.1 (ap says_fit told.0) in
+            both_spent_left near none (last.0 ∙ told.0) told.1 last.1
         | inr some ↦
-            let due = answer_fit l s near-l some in
+            let told = left_as l l' s turn.0 (answered l s) turn.1 (answer_fit l s near-l some) in
             let some_r : nought r.allowance ≡ false = ap (λ b. not b && nought r.allowance) (sym some) ∙ order in
             elim (cases_Bool (l.fit s)) [
               | inl fit ↦
-                  let last = turn.0 (ap says_fit due ∙ fit) in
-                  let told = left_as l l' s (check_answer l s) (answered l s) last.0 due in
-                  both_asked_right near some some_r fit told.1.0 told.1.1 last.1
+                  let last = turn.2.0 (ap says_fit told.0 ∙ fit) in
+                  both_asked_right near some some_r fit told.1.0 told.1.1 last
               | inr unfit ↦
-                  let last = turn.1 (ap says_fit due ∙ unfit) in
-                  let told = left_as l l' s answer (answered l s) last.0 due in
-                  both_asked_left near some some_r unfit told.1.0 told.1.1 told.0 last.1
+                  let last = turn.2.1 (ap says_fit told.0 ∙ unfit) in
+                  both_asked_left near some some_r unfit told.1.0 told.1.1 (last.0 ∙ told.0) last.1
             ]
       ]
 
   checked_both : BothChecked l r s answer l' r' → Checked (both l r) s answer (both l' r')
   checked_both asked =
       elim (cases_Bool (within (both l r).width s)) [
-        | inr far ↦ let h = asked.1 far in both_outside far h.0 h.1 h.2
+        | inr far ↦ let h = asked.1 far in both_outside far (outside_is answer h.0) h.1 h.2
         | inl near ↦
             let h : BothAsked l r s answer l' r' = asked.0 near in
             elim (cases_Bool (not (nought l.allowance) && nought r.allowance)) [
@@ -175,12 +173,11 @@ module _ {L R : Type 0} (left : L → Meaning) (right : R → Meaning) (lefts : 
     (s : ℕ) (r : CheckAnswer) where
   in_turn : AsksInTurn lefts rights o s r p
       → InTurn (left o.left) (right o.right) s r (left p.left) (right p.right)
-  in_turn h =
-      let cl = lm o.left s h.0 p.left h.1 in
-      let P : CheckAnswer → Type 0 = λ y. Checked (left o.left) s y (left p.left) in (
-        λ e. (subst P cl.0 cl, rm o.right s r p.right (h.2.0 (ap says_fit cl.0 ∙ e))),
-        λ e. let x = h.2.1 (ap says_fit cl.0 ∙ e) in (subst P (sym x.0) cl, ap right x.1),
-      )
+  in_turn h = (
+    h.0,
+    lm o.left s h.0 p.left h.1,
+    (λ e. rm o.right s r p.right (h.2.0 e), λ e. let x = h.2.1 e in (x.0, ap right x.1)),
+  )
 
   pub both_asked : BothChecks left right lefts rights o s r p
       → BothChecked (left o.left) (right o.right) s r (left p.left) (right p.right)
@@ -206,8 +203,11 @@ module _ {L R : Type 0} (left : L → Meaning) (right : R → Meaning) (lefts : 
       → Granted (left o.left) k r (left p.left) × Granted (right o.right) k r (right p.right)
   then_granted (Ok u) h then =
       let l = lm o.left k (Ok u) p.left h in
-      let g = rm o.right k r p.right then in
-      (subst (λ (y : GrantAnswer). Granted (left o.left) k y (left p.left)) (l.0 ∙ sym g.0) l, g)
+      let g = rm o.right k r p.right then in (
+        subst (λ (y : GrantAnswer). Granted (left o.left) k y (left p.left))
+            (one_grant k (Ok u) r l.0 g.0) l,
+        g,
+      )
   then_granted (Err e) h then =
       let l = lm o.left k (Err e) p.left h in
       let same : Unchanged (right o.right) (right p.right) = subst (λ (q : R). Unchanged (right o.right) (right q)) (sym then.1) (unchanged (right o.right)) in (

@@ -1,12 +1,13 @@
 -- The calls of the layers: which oracle below is asked, and with what; one that is not asked is the
 -- same oracle, and not one that means the same. Assumes nothing.
-use Rattle.std.specs.Prelude.{◌≡◌, ℕ, zero, suc, ◌+◌, min, Bool, Ok, Err, Option, Some, None}
+use Rattle.std.specs.Prelude.{◌≡◌, ℕ, zero, suc, ◌+◌, min, Bool, [], ◌∷◌, Ok, Err, Option, Some, None}
 use Rattle.sets.specs.Requests.{within}
 use Rattle.oracle.specs.Asking.{verdict}
+use Rattle.oracle.specs.Branching.{If}
 use Rattle.oracle.specs.Calls.{CheckAnswer, GrantAnswer, Checks, Grants}
 use Rattle.oracle.specs.Meaning.{Meaning, limit}
-use Rattle.oracle.specs.declared.CheckRefusal.TheVariants.{Outside, Spent}
-use Rattle.layers.specs.Asked.{If, says_fit, only_right_spent, one_less, fits_after, unfits_after, deciding}
+use Rattle.oracle.specs.Refused.{check_tells, IsRefusedWith}
+use Rattle.layers.specs.Asked.{says_fit, only_right_spent, one_less, fits_after, unfits_after, deciding}
 use Rattle.layers.specs.Listed.{kept_list}
 use Rattle.layers.specs.declared.both.Both.{Both}
 use Rattle.layers.specs.declared.cover.Cover.{Cover}
@@ -15,7 +16,7 @@ use Rattle.layers.specs.declared.quota.Quota.{Quota}
 -- Quota, within the width: at nought it refuses with its own label, and is itself afterwards;
 -- otherwise below is asked once, and its number is one less after an answer
 abbrev pub QuotaAsks : {O : Type 0} → Checks O → (number : ℕ) → Checks (Quota O)
-QuotaAsks checks zero o s r p = (r ≡ Err (Spent o.label)) × (p ≡ o)
+QuotaAsks checks zero o s r p = IsRefusedWith check_tells r 13 (o.label ∷ []) × (p ≡ o)
 QuotaAsks checks (suc n) o s r p =
     checks o.below s r p.below × (p.label ≡ o.label) × (p.number ≡ one_less r (suc n))
 
@@ -24,7 +25,7 @@ abbrev pub QuotaChecks : {O : Type 0} → (O → Meaning) → Checks O → Check
 QuotaChecks meaning checks o s r p =
     If (within (meaning o.below).width s)
     (QuotaAsks checks o.number o s r p)
-    ((r ≡ Err Outside) × (p ≡ o))
+    (IsRefusedWith check_tells r 10 [] × (p ≡ o))
 
 -- its number after a GRANT that was answered so
 abbrev pub number_after : GrantAnswer → (k number : ℕ) → ℕ
@@ -51,7 +52,7 @@ BothChecks left right lefts rights o s r p =
     (If (only_right_spent (left o.left) (right o.right))
     (rights o.right s r p.right × (p.left ≡ o.left))
     (AsksInTurn lefts rights o s r p))
-    ((r ≡ Err Outside) × (p ≡ o))
+    (IsRefusedWith check_tells r 10 [] × (p ≡ o))
 
 -- what follows where the left was granted, with this answer
 abbrev pub ThenGrants : {R : Type 0} → Grants R → (first : GrantAnswer) → Grants R
@@ -79,7 +80,7 @@ CoverChecks meaning checks o s r p =
     If (within (meaning o.below).width s)
     (CoverAsks checks (deciding (kept_list o.fits) (kept_list o.unfits) (meaning o.below) s)
     o s r p)
-    ((r ≡ Err Outside) × (p ≡ o))
+    (IsRefusedWith check_tells r 10 [] × (p ≡ o))
 
 -- a GRANT of Cover: below is granted once, and what is kept stays
 abbrev pub CoverGrants : {O : Type 0} → Grants O → Grants (Cover O)

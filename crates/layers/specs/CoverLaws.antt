@@ -7,11 +7,12 @@ use Rattle.std.proofs.lemmas.Bool.{cases_Bool, cond_both, and_from, not_from_fal
 use Rattle.std.proofs.lemmas.List.Folds.{list_any-append}
 use Rattle.sets.specs.Requests.{Within, within, part}
 use Rattle.sets.proofs.Parts.{part_true}
-use Rattle.oracle.specs.Asking.{nought, verdict, check_answer, Leaves, Taken, Checked, Grown, Granted}
+use Rattle.oracle.specs.Asking.{nought, verdict, Leaves, Taken, Checked, Grown, Granted}
 use Rattle.oracle.specs.Calls.{CheckAnswer, GrantAnswer, Checks, Grants, ChecksMean, GrantsMean}
 use Rattle.oracle.specs.Meaning.{Meaning, Lawful, Kept}
 use Rattle.oracle.specs.declared.CheckRefusal.TheVariants.{Outside}
 use Rattle.oracle.proofs.Checks.{spent, answered, answer_outside, answer_spent, answer_fit, checked_as, left_as, unchanged, kept}
+use Rattle.oracle.proofs.Numbers.{check_answer, outside_is}
 use Rattle.layers.specs.Asked.{most_kept, fits_after, unfits_after, CoverAsked, deciding, CoverChecked}
 use Rattle.layers.specs.Calls.{CoverAsks, CoverChecks, CoverGrants}
 use Rattle.layers.specs.Layered.{under_one, over_one, known, or_below, cover}
@@ -179,7 +180,8 @@ module _ (fits unfits : List ℕ) (m : Meaning) (s : ℕ) (answer : CheckAnswer)
         | inl near ↦ cover_asked law near (deciding fits unfits m s) refl (asked.0 near)
         | inr far ↦
             let h = asked.1 far in
-            cover_alone (Err Outside) h.0 (sym (answer_outside (cover fits unfits m) s far)) (unchanged (cover fits unfits m)) h.1 h.2 h.3
+            cover_alone (Err Outside) (outside_is answer h.0)
+            (sym (answer_outside (cover fits unfits m) s far)) (unchanged (cover fits unfits m)) h.1 h.2 h.3
       ]
 
 -- so it is of the oracle itself, where it is so below

@@ -1,5 +1,5 @@
--- That the layers keep the law of an oracle, from what is below; cited where each says what it
--- means. Proofs only. Assumes nothing.
+-- That the layers keep the law of an oracle, from what is below; cited where each is said to be
+-- lawful. Proofs only. Assumes nothing.
 use Rattle.std.specs.Prelude.{◌≡◌, ℕ, ◌≤◌, min, Bool, true, false, cond, not, ◌&&◌, ◌||◌, List, [], ◌∷◌, Some, None, Option, refl}
 use Rattle.std.specs.List.{list_any}
 use Rattle.std.proofs.Common.{inl, inr, sym, ◌∙◌, lt_of_lt_of_le, arith, pow_mono}

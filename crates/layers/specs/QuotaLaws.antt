@@ -1,17 +1,19 @@
 -- Quota is an oracle: from its number and what it asks below, what it answers and leaves; and what
 -- it takes over endless oracles. Proofs only. Assumes nothing.
-use Rattle.std.specs.Prelude.{◌≡◌, ℕ, zero, suc, ◌+◌, min, Bool, true, false, cond, Ok, Err, Some, None, Option, nat_le, refl}
+use Rattle.std.specs.Prelude.{◌≡◌, ℕ, zero, suc, ◌+◌, min, Bool, true, false, cond, List, [], ◌∷◌, Ok, Err, Some, None, Option, nat_le, refl}
 use Rattle.std.proofs.Common.{inl, inr, sym, ap, subst, ◌∙◌, arith}
 use Rattle.std.proofs.lemmas.Bool.{cases_Bool}
 use Rattle.sets.specs.Requests.{within}
-use Rattle.oracle.specs.Asking.{nought, verdict, check_answer, Leaves, Taken, Checked, Grown, Granted}
+use Rattle.oracle.specs.Asking.{nought, verdict, Leaves, Taken, Checked, Grown, Granted}
 use Rattle.oracle.specs.Calls.{CheckAnswer, GrantAnswer, Checks, Grants, ChecksMean, GrantsMean}
 use Rattle.oracle.specs.Meaning.{Meaning, limit, Unchanged}
+use Rattle.oracle.specs.Refused.{Telling, check_tells, IsRefusedWith}
 use Rattle.oracle.specs.declared.CheckRefusal.{CheckRefusal}
 use Rattle.oracle.specs.declared.CheckRefusal.TheVariants.{Outside, Spent}
 use Rattle.oracle.specs.declared.GrantRefusal.TheVariants.{Over}
 use Rattle.oracle.specs.declared.Verdict.{Verdict}
 use Rattle.oracle.proofs.Checks.{spent, answered, answer_outside, answer_spent, answer_fit, checked_as, left_as, unchanged}
+use Rattle.oracle.proofs.Numbers.{check_answer, values_in, outside_is, spent_is, answer_is, grant_is}
 use Rattle.layers.specs.Allowances.{nought_lesser, taken_lesser, grown_lesser}
 use Rattle.layers.specs.Asked.{one_less, number_granted, QuotaAsked, QuotaChecked}
 use Rattle.layers.specs.AskedLaws.{Took, QuotaTakes}
@@ -55,7 +57,8 @@ module _ (label : ℕ) (m m' : Meaning) (s : ℕ) (answer : CheckAnswer) where
       → Checked (quota number label m) s answer (quota n' label m')
   quota_asked zero n' near h =
       let none : nought (quota zero label m).allowance ≡ true = nought_lesser (Some zero) m.allowance in
-      quota_as zero zero n' (Err (Spent label)) h.0 (sym (answer_spent (quota zero label m) s near none)) (quota_same label m m' zero h.2) h.1
+      quota_as zero zero n' (Err (Spent label)) (spent_is answer label h.0)
+      (sym (answer_spent (quota zero label m) s near none)) (quota_same label m m' zero h.2) h.1
   quota_asked (suc n) n' near h =
       let is : nought (quota (suc n) label m).allowance ≡ nought m.allowance = nought_lesser (Some (suc n)) m.allowance in
       elim (cases_Bool (nought m.allowance)) [
@@ -84,7 +87,8 @@ module _ (label : ℕ) (m m' : Meaning) (s : ℕ) (answer : CheckAnswer) where
         | inl near ↦ quota_asked number n' near (h.0 near)
         | inr far ↦
             let x = h.1 far in
-            quota_as number number n' (Err Outside) x.0 (sym (answer_outside (quota number label m) s far)) (quota_same label m m' number x.2) x.1
+            quota_as number number n' (Err Outside) (outside_is answer x.0)
+            (sym (answer_outside (quota number label m) s far)) (quota_same label m m' number x.2) x.1
       ]
 
 -- so it is of the oracle itself, where it is so below
@@ -109,7 +113,7 @@ module _ {O : Type 0} (meaning : O → Meaning) (checks : Checks O) (mean : Chec
       × QuotaChecked o.number o.label (meaning o.below) s r p.number (meaning p.below)
   quota_asks h =
       let far : within (meaning o.below).width s ≡ false
-      → (p.label ≡ o.label) × (r ≡ Err Outside) × (p.number ≡ o.number)
+      → (p.label ≡ o.label) × IsRefusedWith check_tells r 10 [] × (p.number ≡ o.number)
       × (meaning p.below ≡ meaning o.below) =
       λ e.
       let x = h.1 e in
@@ -170,7 +174,7 @@ module _ {O : Type 0} (meaning : O → Meaning) (grants : Grants O) (mean : Gran
   quota_given h =
       let g = mean o.below k r p.below h.0 in
       let number : p.number ≡ number_granted k o.number =
-      h.2 ∙ ap (λ (y : GrantAnswer). number_after y k o.number) g.0
+      h.2 ∙ ap (λ (y : GrantAnswer). number_after y k o.number) (grant_is k r g.0)
       ∙ number_is k o.number (nat_le k limit) in
       (g, h.1, number)
 
@@ -180,10 +184,14 @@ module _ {O : Type 0} (meaning : O → Meaning) (grants : Grants O) (mean : Gran
       let given = quota_given h in
       let a =
       left_granted k o.label (meaning o.below) (meaning p.below) o.number (nat_le k limit) r
-      p.number given.0.0 given.0.1 given.2 in
+      p.number (grant_is k r given.0.0) given.0.1 given.2 in
       let P : ℕ → Type 0 =
       λ l. Leaves (Grown k) r (quota_meaning meaning o) (quota p.number l (meaning p.below)) in
       (given.0.0, subst P (sym h.1) a)
+
+-- the label that is told
+one_label : (l k : ℕ) → ◌≡◌ {A = Option Telling} (Some (13, l ∷ [])) (Some (13, k ∷ [])) → l ≡ k
+one_label l k same = let e : ◌≡◌ {A = List ℕ} (l ∷ []) (k ∷ []) = ap values_in same in cc
 
 -- over an oracle whose checks are endless
 refused_not : (e : CheckRefusal) (v : Verdict) → ◌≡◌ {A = CheckAnswer} (Err e) (Ok v) → ⊥
@@ -207,7 +215,7 @@ module _ {O : Type 0} (meaning : O → Meaning) (checks : Checks O) (mean : Chec
       → checks o.below s (Err e) p.below → ⊥
   answers e near h =
       refused_not e (verdict ((meaning o.below).fit s))
-      ((mean o.below s (Err e) p.below h).0
+      (answer_is (meaning o.below) s (Err e) (mean o.below s (Err e) p.below h).0
       ∙ answer_fit (meaning o.below) s near (ap nought endless))
 
   same_below : p ≡ o → (meaning p.below).allowance ≡ None
@@ -216,9 +224,10 @@ module _ {O : Type 0} (meaning : O → Meaning) (checks : Checks O) (mean : Chec
   takes_at : (number : ℕ) (r : CheckAnswer) → number ≡ o.number
       → within (meaning o.below).width s ≡ true → QuotaAsks checks number o s r p
       → Took r o p × ((meaning p.below).allowance ≡ None)
-  takes_at zero (Ok v) is near h = let e = h.0 in absurd (refused_not (Spent o.label) v (sym e))
-  takes_at zero (Err Outside) is near h = (h.1, same_below h.1)
-  takes_at zero (Err (Spent l)) is near h = let e = h.0 in ((h.1, cc, sym is), same_below h.1)
+  takes_at zero (Ok v) is near h =
+      absurd (refused_not (Spent o.label) v (sym (spent_is (Ok v) o.label h.0)))
+  takes_at zero (Err e) is near h =
+      ((h.1, λ l tells. (one_label l o.label (sym (ap Some tells) ∙ h.0), sym is)), same_below h.1)
   takes_at (suc n) (Ok v) is near h = (
     (omega (arith, h.2), h.1),
     stays_endless (Ok v) (meaning o.below) (meaning p.below) endless
@@ -233,7 +242,12 @@ module _ {O : Type 0} (meaning : O → Meaning) (checks : Checks O) (mean : Chec
         | inl near ↦ takes_at o.number r refl near (h.0 near)
         | inr far ↦
             let x = h.1 far in
-            (subst (λ (y : CheckAnswer). Took y o p) (sym x.0) x.1, same_below x.1)
+            let none : (l : ℕ) → check_tells Outside ≡ (13, l ∷ []) → ⊥ = λ l tells.
+            let e : ◌≡◌ {A = ℕ} 10 13 = ap (λ t. t.0) tells in absurd (omega arith) in (
+              subst (λ (y : CheckAnswer). Took y o p) (sym (outside_is r x.0))
+                  (x.1, λ l tells. absurd (none l tells)),
+              same_below x.1,
+            )
       ]
 
 pub quota_takes : {O : Type 0} (meaning : O → Meaning) (checks : Checks O)

@@ -1,11 +1,10 @@
 -- How the definitions take one turn, as the code does. Assumes nothing.
-use Rattle.std.proofs.Common.{◌≡◌, ℕ, suc, ◌+◌, ◌<◌, ◌||◌, eqb, List, [], ◌∷◌, length, get_or, drop, Some, None, Option, sym, refl, ap, ◌∙◌}
-use Rattle.std.specs.List.{list_any}
+use Rattle.std.proofs.Common.{◌≡◌, ℕ, suc, ◌+◌, ◌<◌, eqb, List, length, get_or, drop, Some, None, Option, sym, refl, ◌∙◌}
 use Rattle.std.proofs.lemmas.List.{at_drop_more}
 use Rattle.std.proofs.lemmas.Bool.{cond-true, cond-false, eq-eqb, ne_eqb}
 use Rattle.rules.specs.Blank.{blank}
 use Rattle.rules.specs.Force.{in_force, and_then, said}
-use Rattle.rules.specs.Propagation.{turned_if, sweep, spread, bars_if, barred}
+use Rattle.rules.specs.Propagation.{turned_if, sweep, spread}
 use Rattle.rules.specs.declared.Body.{Body}
 use Rattle.rules.specs.declared.Rule.{Rule}
 
@@ -14,20 +13,11 @@ sweep_then : (o : Option Body) (bs : List Body) (on : ℕ) → sweep bs (turned_
 sweep_then None bs on = refl
 sweep_then (Some b) bs on = refl
 
-barred_then : (o : Option Body) (bs : List Body) (on : ℕ) → (bars_if o on || barred bs on) ≡ barred (and_then o bs) on
-barred_then None bs on = refl
-barred_then (Some b) bs on = refl
-
 -- the rules from i on are rule i and the rest
 module _ (s : ℕ) (rules : List Rule) (i : ℕ) (at : i < length rules) (on : ℕ) where
   pub sweep_from : sweep (said s (drop (i + 1) rules)) (turned_if (in_force s (get_or rules i blank)) on) ≡ sweep (said s (drop i rules)) on
   sweep_from =
       sweep_then (in_force s (get_or rules i blank)) (said s (drop (i + 1) rules)) on ∙ sym (at_drop_more (λ rs. sweep (said s rs) on) rules i blank at)
-
--- some rule bars what is on
-pub barred_any : (s : ℕ) (rules : List Rule) (on : ℕ) → list_any (λ r. bars_if (in_force s r) on) rules ≡ barred (said s rules) on
-barred_any s [] on = refl
-barred_any s (r ∷ rs) on = ap (λ t. bars_if (in_force s r) on || t) (barred_any s rs on) ∙ barred_then (in_force s r) (said s rs) on
 
 -- a sweep that changes nothing is the last, and any other is followed by the rest
 module _ (turns : ℕ) (bs : List Body) (on : ℕ) where

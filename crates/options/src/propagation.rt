@@ -4,12 +4,11 @@ ghost use Rattle.std.specs.Option.{option_map};
 ghost use Rattle.sets.specs.Masks.{number_of};
 ghost use Rattle.sets.specs.Members.{none};
 ghost use Rattle.sets.specs.Sets.{bits_of};
-ghost use Rattle.rules.specs.Force.{in_force};
-ghost use Rattle.rules.specs.Propagation.{turned_if, sweep as swept, spread as spread_by, most_sweeps, bars_if, barred, least as least_of};
+ghost use Rattle.rules.specs.Propagation.{sweep as swept, spread as spread_by, most_sweeps, bars_if, barred, least as least_of};
 ghost use Rattle.options.specs.Propagating.{head_turned_on as head_of, in_force_all};
 ghost use Rattle.options.specs.Verdict.{options_of};
 
-use rules::{Body, LAST_OPTION, OptionSet, Rule};
+use rules::{Body, Kind, LAST_OPTION, OptionSet, Rule};
 use sets::{Mask, Set};
 
 // Each sweep but the last turns one of 32 options on.
@@ -30,18 +29,8 @@ fn head_turned_on(body: Option<Body>, on: Mask) -> Option<u32>
     }
 }
 
-// What is on when a rule has had its turn. Whether it is in force is looked at last: most rules turn nothing more on.
-fn turned_by(rule: &Rule, set: Set, on: Mask) -> Mask
-    ensures { number_of result ≡ turned_if (in_force (bits_of set) rule.now) (number_of on) }
-{
-    match head_turned_on(rule.body, on) {
-        Some(head) if rule.in_force(set).is_some() => on.with(head),
-        _ => on,
-    }
-}
-
 // Whether a rule that says this is headless and has all of its options on.
-fn bars(body: Option<Body>, on: Mask) -> bool
+fn forbids(body: Option<Body>, on: Mask) -> bool
     ensures { result ≡ bars_if body (number_of on) }
 {
     match body {
@@ -55,13 +44,6 @@ fn bars(body: Option<Body>, on: Mask) -> bool
     }
 }
 
-// Whether a rule bars what is on. Whether it is in force is looked at last: most rules bar nothing.
-fn barred_by(rule: &Rule, set: Set, on: Mask) -> bool
-    ensures { result ≡ bars_if (in_force (bits_of set) rule.now) (number_of on) }
-{
-    bars(rule.body, on) && rule.in_force(set).is_some()
-}
-
 // The rules of a list, and the requests that ask for them.
 #[derive(Drop)]
 pub struct Propagation<'a> {
@@ -70,13 +52,23 @@ pub struct Propagation<'a> {
 }
 
 impl<'a> Propagation<'a> {
-    // What is on when every rule has had its turn.
+    // What is on when every rule has had its turn. Whether one is in force is looked at last, as in
+    // `bars`: it takes longest, and most rules turn nothing more on.
     fn sweep(&self, on: Mask) -> Mask
         ensures { number_of result ≡ swept (in_force_all self.now) (number_of on) }
     {
         let mut next = on;
         for rule in self.rules {
-            next = turned_by(rule, self.set, next);
+            if !rule.is_of(Kind::Options) {
+                continue;
+            }
+            let Some(head) = head_turned_on(rule.body, next) else {
+                continue;
+            };
+            if rule.in_force(self.set).is_none() {
+                continue;
+            }
+            next = next.with(head);
         }
         next
     }
@@ -96,11 +88,23 @@ impl<'a> Propagation<'a> {
         on
     }
 
-    // Whether some rule bars what is on.
+    // Whether some rule bars what is on. Most bar nothing.
     fn bars(&self, on: Mask) -> bool
         ensures { result ≡ barred (in_force_all self.now) (number_of on) }
     {
-        self.rules.iter().any(|rule| barred_by(rule, self.set, on))
+        for rule in self.rules {
+            if !rule.is_of(Kind::Options) {
+                continue;
+            }
+            if !forbids(rule.body, on) {
+                continue;
+            }
+            if rule.in_force(self.set).is_none() {
+                continue;
+            }
+            return true;
+        }
+        false
     }
 
     // The least options that serve, or none where no options serve.

@@ -2,11 +2,12 @@
 use Rattle.std.proofs.Common.{◌≡◌, ℕ, zero, suc, ◌^◌, Bool, true, false, cond, Some, None, Ok, Err, Option, Result, sym, refl, ◌∙◌, subst}
 use Rattle.std.proofs.lemmas.Bool.{cond-true, cond-false, lt-ltb, ltb-true}
 use Rattle.sets.specs.Requests.{Within, within}
-use Rattle.oracle.specs.Asking.{nought, verdict, if_left, check_answer, Leaves, Taken, Checked}
+use Rattle.oracle.specs.Asking.{nought, verdict, Leaves, Taken, Checked}
 use Rattle.oracle.specs.Meaning.{Meaning, Kept, Unchanged}
 use Rattle.oracle.specs.declared.CheckRefusal.{CheckRefusal}
 use Rattle.oracle.specs.declared.CheckRefusal.TheVariants.{Outside, Spent}
 use Rattle.oracle.specs.declared.Verdict.{Verdict}
+use Rattle.oracle.proofs.Numbers.{if_left, check_answer, answer_is, is_answer}
 
 abbrev pub spent : Meaning → Result Verdict CheckRefusal
 spent m = Err (Spent m.label)
@@ -28,13 +29,14 @@ answer_fit m s near some = cond-true (within m.width s) (if_left m s) (Err Outsi
 pub checked_as : (m n : Meaning) (s : ℕ) (r x : Result Verdict CheckRefusal) → r ≡ x → x ≡ check_answer m s → Leaves Taken x m n → Checked m s r n
 checked_as m n s r x same due after =
     let P : Result Verdict CheckRefusal → Type 0 = λ y. Leaves Taken y m n in
-    (same ∙ due, subst P (sym same) after)
+    (is_answer m s r (same ∙ due), subst P (sym same) after)
 
 -- what a check leaves at the answer that is due
 pub left_as : (m n : Meaning) (s : ℕ) (r x : Result Verdict CheckRefusal) → Checked m s r n → check_answer m s ≡ x → (r ≡ x) × Leaves Taken x m n
 left_as m n s r x checked due =
     let P : Result Verdict CheckRefusal → Type 0 = λ y. Leaves Taken y m n in
-    (checked.0 ∙ due, subst P (checked.0 ∙ due) checked.1)
+    let same : r ≡ x = answer_is m s r checked.0 ∙ due in
+    (same, subst P same checked.1)
 
 -- nothing changed
 pub kept : (m : Meaning) → Kept m m

@@ -1,7 +1,7 @@
 -- The calls of an oracle as relations: which answer a call gives to which oracle, and which oracle
 -- it leaves. Assumes nothing.
 use Rattle.std.specs.Prelude.{◌≡◌, ℕ, Result}
-use Rattle.oracle.specs.Asking.{check_answer, grant_answer, Checked, Granted}
+use Rattle.oracle.specs.Asking.{AnswersCheck, AnswersGrant, Checked, Granted}
 use Rattle.oracle.specs.Meaning.{Meaning}
 use Rattle.oracle.specs.declared.CheckRefusal.{CheckRefusal}
 use Rattle.oracle.specs.declared.GrantRefusal.{GrantRefusal}
@@ -35,8 +35,8 @@ GrantsMean {O} meaning grants =
 
 -- CHECK of an oracle that no call changes: it answers what it means, and is itself afterwards
 abbrev pub StillChecks : {O : Type 0} → (O → Meaning) → Checks O
-StillChecks meaning o s r p = (r ≡ check_answer (meaning o) s) × (p ≡ o)
+StillChecks meaning o s r p = AnswersCheck (meaning o) s r × (p ≡ o)
 
 -- and its GRANT
 abbrev pub StillGrants : {O : Type 0} → Grants O
-StillGrants o k r p = (r ≡ grant_answer k) × (p ≡ o)
+StillGrants o k r p = AnswersGrant k r × (p ≡ o)

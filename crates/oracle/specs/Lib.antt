@@ -1,4 +1,6 @@
 pub mod Asking
+pub mod Branching
 pub mod Calls
 pub mod Meaning
 pub mod Refused
+pub mod Words

@@ -1,20 +1,35 @@
--- The refusals of the calls: which number each has, and which value it tells. Assumes nothing.
-use Rattle.std.specs.Prelude.{ℕ, Some, None, Option}
+-- What the refusals tell: each has a number, and values in their order. Assumes nothing.
+use Rattle.std.specs.Prelude.{◌≡◌, ℕ, List, [], ◌∷◌, Some, None, Ok, Err, Option, Result}
 use Rattle.oracle.specs.declared.CheckRefusal.{CheckRefusal}
 use Rattle.oracle.specs.declared.CheckRefusal.TheVariants.{Outside, Spent}
 use Rattle.oracle.specs.declared.GrantRefusal.{GrantRefusal}
 use Rattle.oracle.specs.declared.GrantRefusal.TheVariants.{Over}
 
--- the number of a refusal of CHECK
-abbrev pub check_number : CheckRefusal → ℕ
-check_number Outside = 10
-check_number (Spent label) = 13
+-- a number, and the values that are told with it
+abbrev pub Telling : Type 0
+Telling = ℕ × List ℕ
 
--- the label, where one is told
-abbrev pub check_value : CheckRefusal → Option ℕ
-check_value Outside = None
-check_value (Spent label) = Some label
+-- what each refusal of CHECK tells
+abbrev pub check_tells : CheckRefusal → Telling
+check_tells Outside = (10, [])
+check_tells (Spent label) = (13, label ∷ [])
 
--- the number of a refusal of GRANT
-abbrev pub grant_number : GrantRefusal → ℕ
-grant_number Over = 11
+-- what the refusal of GRANT tells
+abbrev pub grant_tells : GrantRefusal → Telling
+grant_tells Over = (11, [])
+
+-- what an answer tells, by what its refusals tell; one that is not refused, as a verdict is not, has
+-- no number
+abbrev pub told : {A E : Type 0} → (E → Telling) → Result A E → Option Telling
+told tells (Ok a) = None
+told tells (Err e) = Some (tells e)
+
+-- an answer is refused with this number and these values
+abbrev pub IsRefusedWith : {A E : Type 0} → (E → Telling) → Result A E → (number : ℕ)
+    → (values : List ℕ) → Type 0
+IsRefusedWith tells answer number values = told tells answer ≡ Some (number, values)
+
+-- the one value, or no value
+abbrev pub at_most_one : Option ℕ → List ℕ
+at_most_one None = []
+at_most_one (Some value) = value ∷ []

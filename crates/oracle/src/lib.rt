@@ -1,14 +1,17 @@
 // An oracle answers whether a set of requests can be met, while its allowance lasts.
 #![tactic(auto)]
 
-ghost use Rattle.std.specs.Prelude.{◌≡◌};
+ghost use Rattle.std.specs.Prelude.{◌≡◌, [], Some};
 ghost use Rattle.sets.specs.Sets.{bits_of};
-ghost use Rattle.oracle.specs.Asking.{width_answer, grant_answer};
+ghost use Rattle.oracle.specs.Asking.{AnswersWidth, AnswersGrant};
 ghost use Rattle.oracle.specs.Calls.{Checks, Grants, ChecksMean, GrantsMean};
 ghost use Rattle.oracle.specs.Meaning.{Meaning, Lawful};
-ghost use Rattle.oracle.specs.Refused.{check_number, check_value, grant_number};
+ghost use Rattle.oracle.specs.Refused.{check_tells, grant_tells, at_most_one};
+ghost use Rattle.oracle.specs.Words.{check_words, grant_words};
 
 use sets::Set;
+use std::error::Error;
+use std::fmt;
 
 /// What a check tells of a set: whether all of its requests can be met together. A struct, so that
 /// it can tell more one day.
@@ -36,7 +39,7 @@ pub enum GrantRefusal {
 impl CheckRefusal {
     /// A case that holds a value can have no discriminant, so the numbers stand here.
     pub fn number(self) -> u32
-        ensures { result ≡ check_number self }
+        ensures { result ≡ (check_tells self).0 }
     {
         match self {
             CheckRefusal::Outside => 10,
@@ -46,7 +49,7 @@ impl CheckRefusal {
 
     /// The label that is told, if any: a part of the refusal and not the whole, so no conversion.
     pub fn value(self) -> Option<u8>
-        ensures { result ≡ check_value self }
+        ensures { at_most_one result ≡ (check_tells self).1 }
     {
         match self {
             CheckRefusal::Outside => None,
@@ -57,11 +60,43 @@ impl CheckRefusal {
 
 impl GrantRefusal {
     pub fn number(self) -> u32
-        ensures { result ≡ grant_number self }
+        ensures { grant_tells self ≡ (result, []) }
     {
         self as u32
     }
 }
+
+// In words, why a check is refused.
+impl fmt::Display for CheckRefusal {
+    ghost output = { λ e. Some (check_words e) };
+
+    fn fmt<W: fmt::Write>(&self, f: &mut fmt::Formatter<W>) -> fmt::Result {
+        match *self {
+            CheckRefusal::Outside => write!(f, "the set has a request above the width (OUTSIDE)"),
+            CheckRefusal::Spent { label } => write!(f, "no check is left at label {label} (SPENT)"),
+        }
+    }
+}
+
+// The same of a grant.
+impl fmt::Display for GrantRefusal {
+    ghost output = { λ e. Some (grant_words e) };
+
+    fn fmt<W: fmt::Write>(&self, f: &mut fmt::Formatter<W>) -> fmt::Result {
+        match *self {
+            GrantRefusal::Over => {
+                write!(
+                    f,
+                    "more than 1,000,000 checks cannot be granted at once (OVER)"
+                )
+            }
+        }
+    }
+}
+
+impl Error for CheckRefusal {}
+
+impl Error for GrantRefusal {}
 
 /// The most checks that can be counted, and that can be granted at once.
 pub const LIMIT: u32 = 1_000_000;
@@ -71,7 +106,7 @@ pub const WIDEST: u32 = 32;
 
 /// Every oracle refuses a set with a request above its width, before it looks at anything else.
 pub fn refuse_outside(set: Set, width: u32) -> Result<(), CheckRefusal>
-    ensures { result ≡ width_answer width (bits_of set) }
+    ensures { AnswersWidth width (bits_of set) result }
 {
     if !set.is_within(width) {
         return Err(CheckRefusal::Outside);
@@ -81,7 +116,7 @@ pub fn refuse_outside(set: Set, width: u32) -> Result<(), CheckRefusal>
 
 /// What every oracle answers to a grant, whatever it counts.
 pub fn granted(checks: u32) -> Result<(), GrantRefusal>
-    ensures { result ≡ grant_answer checks }
+    ensures { AnswersGrant checks result }
 {
     if checks > LIMIT {
         return Err(GrantRefusal::Over);

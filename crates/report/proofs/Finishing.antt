@@ -21,11 +21,10 @@ use Rattle.explainer.specs.AtEach.{AtEach}
 use Rattle.explainer.specs.Calls.{width_of, listing_in, IsNew, NextDone, Does}
 use Rattle.explainer.specs.Chains.{Told}
 use Rattle.explainer.specs.Choosing.{after_line, until_end, HasStopped}
-use Rattle.explainer.specs.Led.{Leads}
+use Rattle.explainer.specs.Led.{Leads, IsLed}
 use Rattle.explainer.specs.Moments.{Answer, call_of, next_of, last_made}
 use Rattle.explainer.specs.Nexts.{NextLeads}
 use Rattle.explainer.specs.Preferring.{preferring}
-use Rattle.explainer.specs.Refused.{passed_on}
 use Rattle.explainer.specs.Runs.{EndsListing}
 use Rattle.explainer.specs.declared.asking.Explainer.{Explainer}
 use Rattle.explainer.specs.declared.moments.Call.{Call}
@@ -35,9 +34,11 @@ use Rattle.explainer.specs.declared.moments.Made.TheVariants.{Next}
 use Rattle.explainer.specs.declared.moments.Moment.{Moment}
 use Rattle.explainer.specs.declared.moments.NextAnswer.TheVariants.{Line, End}
 use Rattle.explainer.specs.declared.moments.NextRefusal.TheVariants.{Full, Spent}
+use Rattle.explainer.proofs.Leading.{led_by}
 use Rattle.explainer.proofs.LastMade.{last_push, until_last, until_push}
 use Rattle.explainer.proofs.NextFacts.{runs, come_to, next_keeps, refused_is}
 use Rattle.explainer.specs.NextLaw.{Answers}
+use Rattle.explainer.proofs.NextNumbers.{full_is, passed_on, passed_is}
 use Rattle.explainer.proofs.NextReads.{turn_of, IsNext, next_read}
 use Rattle.explainer.proofs.Preferred.{preferring_orders}
 use Rattle.explainer.proofs.Stagings.{after_append}
@@ -53,7 +54,9 @@ use Rattle.report.proofs.Taking.{IsEndless, chain_takes}
 -- after a call that ended the listing none is chosen
 none_after : (n : Option Answer) → EndsListing n → after_line n ≡ None
 none_after None ends = absurd ends
-none_after (Some (Ok (Line x))) ends = absurd ends
+none_after (Some (Ok (Line x))) (inl ended) = absurd (cc)
+none_after (Some (Ok (Line x))) (inr (inl full)) = absurd (cc)
+none_after (Some (Ok (Line x))) (inr (inr spent)) = let none = spent.1 in absurd (cc)
 none_after (Some (Ok End)) ends = refl
 none_after (Some (Err e)) ends = refl
 
@@ -154,7 +157,8 @@ module _ {B : Type 0} (meaning : B → Meaning) (checks : Checks B) (grants : Gr
       refused_took s check.Outside is h = absurd (cc)
       refused_took s (check.Spent l) is h =
           let took : Took (Err (check.Spent l)) next.last b.oracle = (takes next.last b.oracle s (Err (check.Spent l)) taken.2 h).0 in
-          (took.0, ap (λ x. check.Spent x) (took.1 ∙ taken.1 ∙ stands.label), took.2)
+          let own_one = took.1 l refl in
+          (took.0, ap (λ x. check.Spent x) (own_one.0 ∙ taken.1 ∙ stands.label), own_one.1)
 
       refused_so : (s : ℕ) → some.said ≡ refused s → (e : CheckRefusal) → asks next.last s (Err e) b.oracle
           → (b.oracle ≡ next.last) × (e ≡ check.Spent own_label) × (next.last.number ≡ 0)
@@ -168,12 +172,13 @@ module _ {B : Type 0} (meaning : B → Meaning) (checks : Checks B) (grants : Gr
       unfolding AnswersOwn
       by_said (listed l) is answer = (more_is_same (subst IsNotRefused (sym is) tt), answer.0, answer.1)
       by_said all_listed is answer = (more_is_same (subst IsNotRefused (sym is) tt), answer.0, answer.1)
-      by_said no_room is answer = (more_is_same (subst IsNotRefused (sym is) tt), answer.0, answer.1)
+      by_said no_room is answer =
+          (more_is_same (subst IsNotRefused (sym is) tt), full_is r answer.0, answer.1)
       by_said (refused s) is answer =
-          let took = refused_so s is answer.0 answer.2 in
+          let took = refused_so s is answer.0 answer.1 in
           let all : pile.number - came.checks ≡ length told = omega (arith, left_over, took.2) in (
             ap (λ n. turn_of preferring m0.width m0 n came) all,
-            answer.1 ∙ ap (λ e. Err (passed_on e)) took.1,
+            passed_is r answer.0 answer.2 ∙ ap (λ e. Err (passed_on e)) took.1,
             took.0,
           )
 
@@ -318,7 +323,10 @@ module _ {B : Type 0} (meaning : B → Meaning) (checks : Checks B) (grants : Gr
         let q : Quota B = run.pile in
         let still : IsEndless meaning q =
         ap (λ (p : B). (meaning p).allowance) run.quota.below ∙ endless in
-        let led = run.run.led in
+        let led : IsLed preferring (quota_meaning meaning) (QuotaChecks meaning checks)
+        (QuotaGrants grants) q past b =
+        led_by preferring (quota_meaning meaning) (QuotaChecks meaning checks) (QuotaGrants grants) q past b
+        run.run.law in
         let stops : until_end past ≡ None =
         stops_then past (last_made past) refl
         (until_end_ended preferring (quota_meaning meaning) (QuotaChecks meaning checks) (QuotaGrants grants) most_turns q past b (omega arith) run.run) in

@@ -1,8 +1,10 @@
 pub mod Accepting
 pub mod Exact
+pub mod FewChecks
 pub mod Finishing
 pub mod Listings
 pub mod NamedCases
+pub mod PaidLines
 pub mod Piled
 pub mod Printed
 pub mod Taking

@@ -1,4 +1,5 @@
 pub mod Answered
+pub mod Conflicts
 pub mod Ends
 pub mod Exactly
 pub mod Explained
@@ -7,3 +8,4 @@ pub mod Named
 pub mod PileRuns
 pub mod Piles
 pub mod Texts
+pub mod Told

@@ -1,10 +1,10 @@
 // From the bytes of a ticket to its report.
-ghost use Rattle.std.specs.Prelude.{◌≡◌, ◌≤◌, Some, None};
+ghost use Rattle.std.specs.Prelude.{◌≡◌, ◌≤◌, Some, None, IfOk};
 ghost use Rattle.sets.specs.Requests.{widest};
 ghost use Rattle.oracle.specs.Meaning.{limit};
 ghost use Rattle.explainer.specs.Moments.{last_made};
 ghost use Rattle.report.specs.Answered.{text_told, answer_text, IsAnswered};
-ghost use Rattle.report.specs.Explained.{accepted_text};
+ghost use Rattle.report.specs.Explained.{accepted_text, explained};
 ghost use Rattle.report.specs.LastCall.{ended_next as defined_ended_next, ended_made};
 ghost use Rattle.report.specs.PileRuns.{IsPileRun, EndsAsSteps};
 
@@ -98,7 +98,10 @@ impl fmt::Display for Answer {
     fn fmt<W: fmt::Write>(&self, f: &mut fmt::Formatter<W>) -> fmt::Result {
         match self {
             Answer::Report(report) => write!(f, "{report}"),
-            Answer::Refused(fault) => write!(f, "refused={fault}\n"),
+            Answer::Refused(fault) => {
+                let (number, line, field) = fault.told();
+                write!(f, "refused={number},{line},{field}\n")
+            }
         }
     }
 }
@@ -106,7 +109,8 @@ impl fmt::Display for Answer {
 /// Answers a ticket: an accepted one with the report of its listing, for which it may want for
 /// memory, and a refused one with its fault, for which it may not.
 pub fn explain(heap: Global, text: &[u8]) -> Result<Answer, AllocError>
-    ensures { IsAnswered text.now result }
+    ensures answered { IsAnswered text.now result }
+    ensures text { IfOk result (λ a. answer_text a ≡ explained text.now) }
 {
     // A table, since `read` fills a list that is lent to it.
     let mut rules = [Rule::blank(); ROOM];

@@ -28,7 +28,7 @@ after_rules h p = end_line (h.0.rules + 5) p.1 >>= λ rest. Ok (h.0, p.0, rest)
 abbrev after_headers : Header × List ℕ → Result (Header × List Rule × List ℕ) LineFault
 after_headers h = rule_lines h.0.rules h.0.requests 5 h.1 >>= after_rules h
 
-abbrev close : Header × List Rule × List ℕ → Result (Header × List Rule) TicketFault
+abbrev pub close : Header × List Rule × List ℕ → Result (Header × List Rule) TicketFault
 close p = closed p.0 p.1 p.2
 
 -- the text of a ticket after its headers
@@ -43,7 +43,7 @@ text_short h rs t =
     let few : length rs ≤ most_rules = subst (λ (n : ℕ). n ≤ most_rules) t.rules t.few in
     omega (arith, length-append (header_text h) (body rs), length-append (flat_map line_text rs) (codes "end=ticket\n"))
 
-numbered : (h : Header) (rs : List Rule) → Ticket h rs → Numbered h
+pub numbered : (h : Header) (rs : List Rule) → Ticket h rs → Numbered h
 numbered h rs t = record { requests = t.requests; checks = t.checks; few = t.few }
 
 lines_said : (room : ℕ) (h : Header) (rs : List Rule) → Ticket h rs → lines room (text_of h rs) ≡ ((has_room h.rules room >>= λ _. Ok (h, body rs)) >>= after_headers)
@@ -76,10 +76,10 @@ closed_ok h rs [] q e = (refl, same_ok (h, rs) q e)
 closed_ok h rs (b ∷ bs) q e = absurd (err_no_ok (Tail (h.rules + 6)) q e)
 
 -- what the lines say: a ticket, with room for its rules, and its text before what is left
-abbrev LinesOf : (room : ℕ) → List ℕ → Header × List Rule × List ℕ → Type 0
+abbrev pub LinesOf : (room : ℕ) → List ℕ → Header × List Rule × List ℕ → Type 0
 LinesOf room text p = Ticket p.0 p.1 × (text ≡ header_text p.0 ++ (flat_map line_text p.1 ++ (codes "end=ticket\n" ++ p.2))) × (p.0.rules ≤ room)
 
-lines_ok : (text : List ℕ) (room : ℕ) (q : Header × List Rule × List ℕ) → lines room text ≡ Ok q → LinesOf room text q
+pub lines_ok : (text : List ℕ) (room : ℕ) (q : Header × List Rule × List ℕ) → lines room text ≡ Ok q → LinesOf room text q
 lines_ok text room q e =
     let a = then_ok (headers room text) after_headers q e in
     let b = then_ok (rule_lines a.0.0.rules a.0.0.requests 5 a.0.1) (after_rules a.0) q a.2 in

@@ -40,13 +40,13 @@ header_text_said h rest =
 abbrev pub after_rules : (room n k : ℕ) → ℕ × List ℕ → Result (Header × List ℕ) LineFault
 after_rules room n k r = has_room r.0 room >>= λ _. Ok (record { requests = n; checks = k; rules = r.0 }, r.1)
 
-abbrev after_checks : (room n : ℕ) → ℕ × List ℕ → Result (Header × List ℕ) LineFault
+abbrev pub after_checks : (room n : ℕ) → ℕ × List ℕ → Result (Header × List ℕ) LineFault
 after_checks room n k = header_line Rules 4 k.1 >>= after_rules room n k.0
 
-abbrev after_requests : (room : ℕ) → ℕ × List ℕ → Result (Header × List ℕ) LineFault
+abbrev pub after_requests : (room : ℕ) → ℕ × List ℕ → Result (Header × List ℕ) LineFault
 after_requests room n = header_line Checks 3 n.1 >>= after_checks room n.0
 
-abbrev after_ticket : (room : ℕ) → ℕ × List ℕ → Result (Header × List ℕ) LineFault
+abbrev pub after_ticket : (room : ℕ) → ℕ × List ℕ → Result (Header × List ℕ) LineFault
 after_ticket room a = header_line Requests 2 a.1 >>= after_requests room
 
 -- TABLE is all that can stop the text of headers in range

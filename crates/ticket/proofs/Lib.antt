@@ -2,10 +2,14 @@ pub mod Bodies
 pub mod Ends
 pub mod Exactness
 pub mod Filling
+pub mod FirstRefused
+pub mod Firsts
 pub mod HeaderLines
 pub mod Headings
 pub mod Heads
 pub mod EveryRule
 pub mod Letters
+pub mod LineVerdicts
 pub mod Risen
 pub mod RuleLines
+pub mod TextVerdicts

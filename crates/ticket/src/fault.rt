@@ -1,9 +1,11 @@
 // Why a ticket is refused. A line's fault goes whole into the ticket's.
 ghost use Rattle.std.specs.Prelude.{◌≡◌, Some};
-ghost use Rattle.ticket.specs.Refusals.{told, refusal_text};
+ghost use Rattle.ticket.specs.Refusals.{told};
+ghost use Rattle.ticket.specs.Words.{fault_words};
 ghost use Rattle.ticket.specs.declared.fault.TicketFault.TheVariants.{Line};
 
 use fields::LineFault;
+use std::error::Error;
 use std::fmt;
 
 // `Tail` has the number of the line after the last.
@@ -36,12 +38,22 @@ impl TicketFault {
     }
 }
 
-// Number, line and field, with commas.
+// In words: where the ticket is at fault, and what is wrong there.
 impl fmt::Display for TicketFault {
-    ghost output = { λ f. Some (refusal_text f) };
+    ghost output = { λ f. Some (fault_words f) };
 
     fn fmt<W: fmt::Write>(&self, f: &mut fmt::Formatter<W>) -> fmt::Result {
-        let (number, line, field) = self.told();
-        write!(f, "{number},{line},{field}")
+        match *self {
+            TicketFault::Long => write!(f, "the ticket has more than 16,384 bytes (LONG)"),
+            TicketFault::Line(fault) => write!(f, "{fault}"),
+            TicketFault::Tail(line) => {
+                write!(
+                    f,
+                    "line {line}: the ticket has ended, and more bytes follow (TAIL)"
+                )
+            }
+        }
     }
 }
+
+impl Error for TicketFault {}

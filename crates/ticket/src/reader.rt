@@ -2,6 +2,7 @@
 ghost use Rattle.std.specs.Prelude.{◌≡◌, ◌+◌, ◌≤◌, List, [], ◌++◌, length, drop, IfOk, Ok, Err, MatchResult};
 ghost use Rattle.std.specs.Result.{result_map_both};
 ghost use Rattle.rules.specs.declared.Rule.{Rule as RuleRecord};
+ghost use Rattle.ticket.specs.Refuses.{RefusesByFirst};
 ghost use Rattle.ticket.specs.Tickets.{Exact};
 ghost use Rattle.fields.specs.Formed.{in_line};
 ghost use Rattle.ticket.specs.Lines.{rule_lines as rule_lines_of};
@@ -97,16 +98,20 @@ fn read_afresh(text: &[u8], rules: &mut [Rule]) -> Result<Header, TicketFault>
     ensures answer { result ≡ answer (reading text.now (length rules.old)) }
     ensures list { MatchResult result (λ _. rules.new ≡ padded (length rules.old) (rules_read (reading text.now (length rules.old)))) (λ _. rules_read (reading text.now (length rules.old)) ≡ []) }
     ensures exact { Exact text.now (length rules.old) }
+    ensures first { RefusesByFirst text.now (length rules.old) result }
 {
     rules.fill(Rule::blank());
     read_all(text, rules)
 }
 
-// Reads a ticket: its numbers, and its rules into the list, whose other entries are then blank. A refusal leaves every entry blank.
+/// Reads a ticket: its numbers, and its rules into the list, whose other entries are then blank. A
+/// refusal leaves every entry blank, and tells number, line and field of the first that applies: a
+/// text is refused so exactly when that refusal is true of it.
 pub fn read(text: &[u8], rules: &mut [Rule]) -> Result<Header, TicketFault>
     ensures answer { result ≡ answer (reading text.now (length rules.old)) }
     ensures list { rules.new ≡ padded (length rules.old) (rules_read (reading text.now (length rules.old))) }
     ensures exact { Exact text.now (length rules.old) }
+    ensures first { RefusesByFirst text.now (length rules.old) result }
 {
     let answer = read_afresh(text, rules);
     if answer.is_err() {

@@ -50,7 +50,6 @@ returns g c = record {
     | else-loop-turn-test w ↦ inl (omega arith)
     | then-loop-turn-test+in_default w ↦ inr (omega arith, cc)
   ];
-  led = c.loop-turn.invariant.led;
   law = law_of preferring preferring_orders g.O.Oracle.meaning g.O.Oracle.check_leads g.O.Oracle.grant_leads g.met.O.Oracle.lawful
       g.met.O.Oracle.check_means g.met.O.Oracle.grant_means c.args.oracle c.loop-turn.moments.items c.loop-turn.explainer c.loop-turn.invariant.led;
 }

@@ -1,4 +1,4 @@
-use Rattle.std.proofs.Common.{◌≡◌, ℕ, List, [], ◌++◌, length, drop, replicate, Ok, Err, Result, sym, ap, ◌∙◌, MatchResult}
+use Rattle.std.proofs.Common.{◌≡◌, ℕ, List, [], ◌++◌, length, drop, replicate, Ok, Err, Result, sym, ap, ◌∙◌, subst, MatchResult}
 use Rattle.std.proofs.lemmas.List.{drop-replicate}
 use Rattle.rules.specs.Blank.{blank}
 use Rattle.rules.specs.declared.Rule.{Rule}
@@ -6,6 +6,9 @@ use Rattle.ticket.specs.Reading.{reading, answer, rules_read, padded}
 use Rattle.ticket.specs.declared.fault.TicketFault.{TicketFault}
 use Rattle.ticket.specs.declared.reader.Header.{Header}
 use Rattle.ticket.proofs.Exactness.{exact}
+use Rattle.ticket.proofs.FirstRefused.{read_by_first}
+use Rattle.ticket.specs.Refuses.{RefusesByFirst}
+use Rattle.fields.proofs.FirstFlaw.{flaw_laws}
 use Rattle.ticket.proofs.reader.read_afresh.Goals as goal
 
 -- what was read into a list that was blank before, and is `after` now
@@ -29,4 +32,11 @@ returns c =
     let n = length c.args.rules.now in
     let was : c.fill.new.self ≡ replicate n blank = c.fill.ensures.after (λ _ same. same) ∙ ap (replicate n) c.blank.ensures in
     let p = settled c.args.text.now n c.fill.new.self c.read_all.new.rules c.fill.ensures.len was c.read_all.result c.read_all.ensures in
-    record { answer = p.0; list = p.1; exact = exact c.args.text.now n }
+    record {
+      answer = p.0;
+      list = p.1;
+      exact = exact c.args.text.now n;
+      first =
+          subst (RefusesByFirst c.args.text.now n) (sym p.0)
+          (read_by_first flaw_laws c.args.text.now n).0;
+    }

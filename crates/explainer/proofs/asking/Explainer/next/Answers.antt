@@ -3,8 +3,8 @@ use Rattle.sets.specs.Sets.{bits_of}
 use Rattle.listing.specs.Steps.{check, lists, all, full, with_line}
 use Rattle.explainer.specs.Holding.{move_of}
 use Rattle.explainer.specs.Preferring.{preferring}
-use Rattle.explainer.specs.Refused.{passed_on}
-use Rattle.explainer.proofs.NextCode.{due_check, due_list, due_all, due_full, err_is, led_to, line_told, fewer_left, ends_so, lists_so, goes_so, goes_further}
+use Rattle.explainer.proofs.NextCode.{due_check, due_list, due_all, due_full, led_to, line_told, fewer_left, ends_so, lists_so, goes_so, goes_further}
+use Rattle.explainer.proofs.NextNumbers.{err_tells}
 use Rattle.explainer.proofs.Preferred.{preferring_orders}
 use Rattle.explainer.proofs.asking.Explainer.next.Goals as goal
 
@@ -40,10 +40,10 @@ returns-in_err-verdict-in-Check g c =
     let e = c.in_err-verdict-in-Check.field-0.0 in
     let same = c.due.ensures.same in
     let is = due_check (move_of preferring a.progress) c.in-Check.set c.in-Check.ensures.due in
-    let told = err_is c.from_residual.result (passed_on e) c.from_residual.ensures.1 in
+    let told = err_tells c.from_residual.result e c.from_residual.ensures.1 in
     c.loop-line.invariant.goes_on _ _
     (ends_so preferring g.O.Oracle.check_leads a (check (bits_of c.in-Check.set)) _ _ is
-    (e, c.in_err-verdict-in-Check.ensures, told, same.1) same.0)
+    ((e, c.in_err-verdict-in-Check.ensures, told), same.1) same.0)
 
 -- the check was answered, and the answer listed a line
 pub returns-in-Some : goal.returns-in-Some
