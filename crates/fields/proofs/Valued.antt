@@ -58,7 +58,7 @@ fields_spelled s requests [] some placed = absurd (omega arith)
 fields_spelled s requests (v ∷ vs) some placed = fields_commas (spelled v) (map spelled vs) (placed_free s requests 1 (v ∷ vs) placed).0
 
 -- a line with as many fields as it may have, of which none is at fault
-without_fault : (s : Sort) (requests line : ℕ) (fs : List (List ℕ)) (vs : List Value) → fewest s ≤ length fs → length fs ≤ most s → formed s line 1 fs ≡ Ok vs → ranged s requests line vs ≡ Ok tt → ordered s line vs ≡ Ok tt → values_in s requests line fs ≡ Ok vs
+pub without_fault : (s : Sort) (requests line : ℕ) (fs : List (List ℕ)) (vs : List Value) → fewest s ≤ length fs → length fs ≤ most s → formed s line 1 fs ≡ Ok vs → ranged s requests line vs ≡ Ok tt → ordered s line vs ≡ Ok tt → values_in s requests line fs ≡ Ok vs
 without_fault s requests line fs vs low high good fine also =
     cond-true _ _ _ (and_from _ _ (le-leb _ _ low) (le-leb _ _ high))
     ∙ ap (λ r. in_line (r >>= checked s requests line)) good

@@ -13,7 +13,7 @@ mod value;
 pub use cuts::cut;
 pub use fault::{FieldFault, Flaw, LineFault};
 pub use layout::{Heading, MOST_RULES, Sort};
-pub use line::{Form, MOST};
+pub use line::{Form, MOST, Values};
 pub use value::Value;
 
 /// A line that is refused has the fault that is told of it, none with a smaller number, and none

@@ -1,6 +1,5 @@
 // The fields of a line: how many they are, what they say, and the first that is at fault.
-ghost use Rattle.std.specs.Prelude.{◌≡◌, ◌≤◌, length, IfOk, IfErr};
-ghost use Rattle.std.specs.Result.{result_map_both};
+ghost use Rattle.std.specs.Prelude.{◌≡◌, ◌≤◌, length, IfErr, OnOk, Ok, Err, MatchResult};
 ghost use Rattle.fields.specs.Cuts.{fields as fields_of};
 ghost use Rattle.fields.specs.Faults.{at_field};
 ghost use Rattle.fields.specs.Flaws.{TellsFirst, IsFaultless};
@@ -11,10 +10,14 @@ use crate::fault::{FieldFault, Flaw, LineFault};
 use crate::layout::Sort;
 use crate::value::{Value, said};
 use arrayvec::ArrayVec;
+use memchr::memchr_iter;
 use rules::MOST_MEMBERS;
 
 // The most fields of any line.
 pub const MOST: usize = 2 + MOST_MEMBERS as usize;
+
+/// What the fields of one line say.
+pub type Values = ArrayVec<Value, MOST>;
 
 // A line whose fields are to be read: its sort, the requests of its ticket, and its number.
 #[derive(Clone, Copy)]
@@ -28,7 +31,7 @@ pub struct Form {
 fn count(value: &[u8]) -> usize
     ensures { result ≡ length (fields_of value.now) }
 {
-    value.iter().filter(|b| **b == b',').count() + 1
+    memchr_iter(b',', value).count() + 1
 }
 
 impl Form {
@@ -43,12 +46,15 @@ impl Form {
         }
     }
 
-    // FORM: what each field says. How a field is written does not hang on the requests, so 0 serves.
-    fn formed(self, value: &[u8]) -> Result<ArrayVec<Value, MOST>, FieldFault>
+    // FORM: what each field says, into a list that is lent, since one that is handed back is copied
+    // twice. How a field is written does not hang on the requests, so 0 serves.
+    fn formed(self, value: &[u8], values: &mut Values) -> Result<(), FieldFault>
         requires { length (fields_of value.now) ≤ most self.sort }
-        ensures { result_map_both (λ v. v.items) (λ e. e) result ≡ forms self.sort self.line 1 (fields_of value.now) }
+        ensures { MatchResult result
+            (λ _. forms self.sort self.line 1 (fields_of value.now) ≡ Ok values.new.items)
+            (λ e. forms self.sort self.line 1 (fields_of value.now) ≡ Err e) }
     {
-        let mut values = ArrayVec::new();
+        values.clear();
         for (i, text) in value.split(|b| *b == b',').enumerate() {
             let field = i + 1;
             let Some(said) = said(self.sort.column(0, field).style, text) else {
@@ -56,7 +62,7 @@ impl Form {
             };
             values.push(said);
         }
-        Ok(values)
+        Ok(())
     }
 
     // RANGE. A `for` that leaves with the fault: of a `position` the fault would still have to be made.
@@ -90,20 +96,23 @@ impl Form {
         Ok(())
     }
 
-    /// COUNT, FORM, RANGE and ORDER; gives what the fields say. The fault that it tells is the
-    /// first that the value has; what it takes has none.
-    pub fn checked(self, value: &[u8]) -> Result<ArrayVec<Value, MOST>, LineFault>
-        ensures value { result_map_both (λ v. v.items) (λ e. e) result
-            ≡ values_of self.sort self.requests self.line value.now }
+    /// COUNT, FORM, RANGE and ORDER; writes what the fields say to the list, in place of what it
+    /// held. The fault that it tells is the first that the value has, and what the list then holds
+    /// is open; what it takes has none.
+    pub fn checked(self, value: &[u8], values: &mut Values) -> Result<(), LineFault>
+        ensures value { MatchResult result
+            (λ _. values_of self.sort self.requests self.line value.now ≡ Ok values.new.items)
+            (λ e. values_of self.sort self.requests self.line value.now ≡ Err e) }
         ensures first { IfErr result (TellsFirst self.sort self.requests self.line value.now) }
-        ensures none { IfOk result (λ v. IsFaultless self.sort self.requests value.now v.items) }
+        ensures none { OnOk result
+            (IsFaultless self.sort self.requests value.now values.new.items) }
     {
         if !(self.sort.fewest()..=self.sort.most()).contains(&count(value)) {
             return Err(LineFault::Count(self.line));
         }
-        let values = self.formed(value)?;
-        self.ranged(&values)?;
-        self.ordered(&values)?;
-        Ok(values)
+        self.formed(value, values)?;
+        self.ranged(values)?;
+        self.ordered(values)?;
+        Ok(())
     }
 }

@@ -44,7 +44,7 @@ impl Value {
 fn plain(field: &[u8]) -> Option<Value>
     ensures { result ≡ plain (number_of field.now) }
 {
-    number(field).map(Value::Plain)
+    Some(Value::Plain(number(field)?))
 }
 
 fn head(field: &[u8]) -> Option<Value>

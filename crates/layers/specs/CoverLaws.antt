@@ -32,7 +32,7 @@ module _ (fits unfits : List ℕ) (m : Meaning) where
       record { width = k.width; fit = λ x close. ap (or_below (known fits' unfits' x)) (k.fit x close) ∙ same x close }
 
 -- a test of one more
-any_end : (test : ℕ → Bool) (ks : List ℕ) (s : ℕ)
+pub any_end : (test : ℕ → Bool) (ks : List ℕ) (s : ℕ)
     → list_any test (ks ++ (s ∷ [])) ≡ (list_any test ks || test s)
 any_end test ks s =
     list_any-append test ks (s ∷ [])

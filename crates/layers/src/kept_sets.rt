@@ -1,9 +1,6 @@
 // Up to 64 sets, in the order in which they were kept.
-ghost use Rattle.std.specs.Prelude.{◌≡◌, []};
-ghost use Rattle.sets.specs.Sets.{bits_of};
-ghost use Rattle.layers.specs.Asked.{kept_one};
-ghost use Rattle.layers.specs.Layered.{under_one, over_one};
-ghost use Rattle.layers.specs.Listed.{kept_list};
+ghost use Rattle.std.specs.Prelude.{◌≤◌, length};
+ghost use Rattle.layers.specs.Asked.{most_kept};
 
 use arrayvec::ArrayVec;
 use sets::Set;
@@ -13,9 +10,17 @@ const MOST: usize = 64;
 #[derive(Drop)]
 pub struct KeptSets {
     sets: ArrayVec<Set, MOST>,
+    ghost few: { length sets.items ≤ most_kept },
 }
 
 impl KeptSets {
+    // Here, since `kept_list` names `KeptSets`, and what is named above is read before it.
+    ghost use Rattle.std.specs.Prelude.{◌≡◌, []};
+    ghost use Rattle.sets.specs.Sets.{bits_of};
+    ghost use Rattle.layers.specs.Asked.{kept_one};
+    ghost use Rattle.layers.specs.Layered.{under_one, over_one};
+    ghost use Rattle.layers.specs.Listed.{kept_list};
+
     pub fn new() -> KeptSets
         ensures { kept_list result ≡ [] }
     {

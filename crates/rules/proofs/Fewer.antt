@@ -62,7 +62,7 @@ no_false (yes a) x = absurd (x a)
 no_false (no n) x = refl
 
 -- the law of the verdict, for every kind of rule, however it is decided
-rules_downward : (k : Kind) (decide : Decision k) (rules : List Rule) (width : ℕ) → Downward width (fit_by k decide rules)
+pub rules_downward : (k : Kind) (decide : Decision k) (rules : List Rule) (width : ℕ) → Downward width (fit_by k decide rules)
 rules_downward k decide rules width t s inside within fit =
     let found = true_yes (decide rules s) fit in
     yes_true (decide rules t) (found.0, every_fewer (MeetsKind k found.0) t s rules within found.1)

@@ -7,8 +7,10 @@ ghost use Rattle.sets.specs.Members.{has_from, added_from, lower, minus, none};
 ghost use Rattle.sets.specs.Requests.{widest, within, part, everyone, IsFirst};
 ghost use Rattle.sets.specs.SetLaws.{SetLaws};
 
+use std::fmt;
+
 // A set of numbers from FIRST up to FIRST + 31.
-#[derive(Clone, Copy, PartialEq, Eq, Default, Debug)]
+#[derive(Clone, Copy, PartialEq, Eq, Default)]
 pub struct Members<const FIRST: u32> {
     bits: u32,
 }
@@ -18,6 +20,18 @@ pub type Mask = Members<0>;
 
 // A set of requests, 1 to 32: request r is the bit worth 2^(r-1).
 pub type Set = Members<1>;
+
+// By the name of the instance, `Mask` or `Set`: a derived one would print one name for both.
+impl<const FIRST: u32> fmt::Debug for Members<FIRST> {
+    fn fmt<W: fmt::Write>(&self, f: &mut fmt::Formatter<W>) -> fmt::Result {
+        let name = match FIRST {
+            0 => "Mask",
+            1 => "Set",
+            _ => "Members",
+        };
+        f.debug_struct(name).field("bits", &self.bits).finish()
+    }
+}
 
 impl<const FIRST: u32> Members<FIRST> {
     // Not a `From`: a number turns into a set only where the code says which.

@@ -117,7 +117,14 @@ impl<'a> Line<'a> {
     pub fn entry(self) -> Option<Entry<'a>>
         ensures { MatchOption result (Unknown self.entry.text.now) (Says self.entry.number self.entry.text.now) }
     {
-        // Not `or_else`: these say their answer by cases, and a closure passes on equations alone.
-        self.as_rule().or(self.as_header()).or(self.as_end())
+        // Leaves at the first key that fits. Not `or`, which looks for all keys of each line, nor
+        // `or_else`: these say their answer by cases, and a closure passes on equations alone.
+        if let Some(entry) = self.as_rule() {
+            return Some(entry);
+        }
+        if let Some(entry) = self.as_header() {
+            return Some(entry);
+        }
+        self.as_end()
     }
 }

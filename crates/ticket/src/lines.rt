@@ -5,7 +5,7 @@ ghost use Rattle.ticket.specs.Lines.{next_line, header_value, header_line, rule_
 
 use crate::entry::{Entry, Line};
 use crate::ruled::{at, rule_of};
-use fields::{FieldFault, Flaw, Form, Heading, LineFault, Sort, cut};
+use fields::{FieldFault, Flaw, Form, Heading, LineFault, Sort, Values, cut};
 use rules::Rule;
 
 fn end_value(line: usize, value: &[u8]) -> Result<(), FieldFault>
@@ -41,7 +41,8 @@ impl Line<'_> {
                     requests: 0,
                     line,
                 };
-                let values = form.checked(value)?;
+                let mut values = Values::new();
+                form.checked(value, &mut values)?;
                 Ok(at(&values, 0).amount())
             }
             _ => Err(LineFault::Key(self.number)),
@@ -60,7 +61,8 @@ impl Line<'_> {
             requests,
             line,
         };
-        let values = form.checked(value)?;
+        let mut values = Values::new();
+        form.checked(value, &mut values)?;
         Ok(rule_of(kind, &values))
     }
 

@@ -24,6 +24,8 @@ mod made;
 mod nested;
 #[cfg(test)]
 mod played;
+#[cfg(test)]
+mod printed;
 mod probe;
 #[cfg(test)]
 mod reports;

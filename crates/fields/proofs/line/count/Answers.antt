@@ -1,9 +1,10 @@
-use Rattle.std.proofs.Common.{◌≡◌, eqb, rules, arith}
+use Rattle.std.proofs.Common.{ℕ, Bool, eqb, ap, length, ◌∙◌, arith}
 use Rattle.std.proofs.lemmas.List.Splits.{length-slice_split}
-use Rattle.std.specs.List.{count_by}
+use Rattle.memchr.proofs.lemmas.CallerLemmas.{length-places}
 use Rattle.fields.proofs.line.count.Goals as goal
 
 pub returns : goal.returns
 returns c =
-    let commas : c.count.result ≡ count_by (λ b. eqb b 44) c.args.value.now = search rules in
-    omega (arith, commas, length-slice_split (λ b. eqb b 44) c.args.value.now)
+    let comma : ℕ → Bool = λ b. eqb b 44 in
+    let commas = c.count.ensures ∙ ap length c.memchr_iter.ensures.value ∙ length-places comma c.args.value.now in
+    omega (arith, commas, length-slice_split comma c.args.value.now)

@@ -2,7 +2,7 @@ use Rattle.std.proofs.Common.{ℕ, ◌^◌, ◌<◌, ◌≤◌, lt_of_lt_of_le, 
 use native.Mathlib.Nat.{pow-le-pow_right}
 use Rattle.fields.proofs.number.digits.Goals as goal
 
-at_most_seven : (n i : ℕ) → n < 10 ^ i → i ≤ 7 → n < 10000000
+pub at_most_seven : (n i : ℕ) → n < 10 ^ i → i ≤ 7 → n < 10000000
 at_most_seven n i h l = lt_of_lt_of_le h (pow-le-pow_right (lit< tt) l)
 
 pub overflow_mul-sum : goal.overflow_mul-sum

@@ -33,7 +33,7 @@ returns-in_default c =
     let h = here (goal.at.returns-in_default c).In-Some (walked (goal.at.returns-in_default c).After-next) in
     let i = length c.loop-i.yielded in
     let none : said (column c.args.self.sort 0 (i + 1)).style c.in-Some.text.now ≡ None = rw (sym h.1, sym c.column.ensures) (sym c.said.ensures ∙ c.in_default.is) in
-    rw (c.fault.ensures, h.1) (sym (formed_fault c.args.self.sort c.args.self.line (fields c.args.value.now) i c.loop-i.values.items c.in-Some.text.now h.0 h.2 none) ∙ c.loop-i.invariant.said)
+    rw (c.fault.ensures, h.1) (sym c.loop-i.invariant.said ∙ formed_fault c.args.self.sort c.args.self.line (fields c.args.value.now) i c.loop-i.values.items c.in-Some.text.now h.0 h.2 none)
 
 pub push-requires : goal.push-requires
 push-requires c =
@@ -55,4 +55,4 @@ loop-i-preserved c =
 pub returns : goal.returns
 returns c =
     let end = no_turn c.args.value.now (walked (goal.at.returns c).After-next) c.loop-i.yielded _ c.loop-i.yielded_by _ _ c.in-None.is c.next.ensures.steps in
-    sym (formed_all c.args.self.sort c.args.self.line (fields c.args.value.now) (length c.loop-i.yielded) c.loop-i.values.items end) ∙ c.loop-i.invariant.said
+    sym c.loop-i.invariant.said ∙ formed_all c.args.self.sort c.args.self.line (fields c.args.value.now) (length c.loop-i.yielded) c.loop-i.values.items end
