@@ -1,5 +1,6 @@
 pub mod Commas
 pub mod Cutting
+pub mod Digits
 pub mod FirstFlaw
 pub mod FormFlaws
 pub mod Forming
